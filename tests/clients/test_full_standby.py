@@ -1,11 +1,14 @@
 """A nearly full standby to which the longest value comes, with its free lines in holes: it moves the versions of one stretch of its lines out of the way, and not
-those of the whole image. What is counted are records, of which each move has one."""
+those of the whole image, up to 64 under one record. What is counted are stamps, of which each move has one, and records."""
 
+import os
 import random
 import re
 import typing
 
 import common
+import noted_calls
+from noted_calls import Noting
 from plain_image import MORE_LINES, SPARE_LINES, extents_begin, lines_of_puts
 from plain_keyspace import Drop, Put
 from plain_wire import Acknowledgement, Group, text
@@ -19,6 +22,8 @@ LAST = Put((b"last",), 2**20 * b"v")
 NEED = lines_of_puts([LAST])[0]
 # How many changes a frame has that fills the image.
 CHANGES = 500
+# How many versions move under one record.
+MOST_PARTS = 64
 
 
 class Filled(typing.NamedTuple):
@@ -77,6 +82,15 @@ def most_within(counts, lines):
     return most
 
 
+class Moved(typing.NamedTuple):
+    """What the standby wrote before the record of the last frame: how many records, and how many stamps these gave; and how often its image was synced, with that
+    record, where calls are noted."""
+
+    records: int
+    moves: int
+    syncs: int
+
+
 class FullStandby(StandingBy):
     FILLED = [Filled(65_536, 0.97, 4_096, True), Filled(65_536, 0.998, 4_096, True), Filled(65_536, 0.98, 900, False), Filled(262_144, 0.995, 4_096, False)]
     LONG = [Filled(1_048_576, share, 4_096, is_drawn) for share in (0.97, 0.98, 0.995) for is_drawn in (True, False)]
@@ -85,27 +99,37 @@ class FullStandby(StandingBy):
         for filled in self.FILLED + self.LONG * common.IS_LONG:
             with self.case("image", filled=filled), self.folder() as folder:
                 changes, left = filled.changes(random.Random(str(filled)))
-                moves = self.moves(folder / "s.img", filled.lines + MORE_LINES, changes)
-                self.assertGreater(moves, 0)
+                moved = self.moved(folder / "s.img", filled.lines + MORE_LINES, changes)
+                self.assertGreater(moved.moves, 2 * MOST_PARTS)
                 # (what lies in two mebibytes goes out of the way, once each)
-                self.assertLessEqual(moves, most_within(left, 2 * NEED))
+                self.assertLessEqual(moved.moves, most_within(left, 2 * NEED))
+                # (a record ends early where the next version goes to lines that one under it leaves)
+                least = -(-moved.moves // MOST_PARTS)
+                self.assertGreaterEqual(moved.records, least)
+                self.assertLessEqual(moved.records, 2 * least)
+                # (each fence is a sync of the file: three are of a record, one frees what was moved under it, and three are of the record of the frame)
+                self.assertLessEqual(moved.syncs, 4 * moved.records + 3)
 
-    def moves(self, path, lines, changes):
-        """How many records the standby writes before that of a frame that puts the longest value, behind these changes."""
+    def moved(self, path, lines, changes):
+        """What a frame that puts the longest value has the standby do, behind these changes."""
         self.assertEqual(self.run_words(format_words(path, lines, "standby")).status, 0)
         parts = [tuple(changes[at:at + CHANGES]) for at in range(0, len(changes), CHANGES)]
-        with Node(path) as node:
+        noting = Noting(noted_calls.library(path.parent), path, keeps=False) if noted_calls.HAS_COMPILER else None
+        with Node(path, env=os.environ | noting.settings if noting else None) as node:
             # (what the last of the changes ended is freed with the frame behind it)
             self.assert_taken(node, 0, [*parts, ()])
-            before = self.record(path)
+            before = self.given(path, noting)
             self.assert_taken(node, len(parts) + 1, [(LAST,)])
-            return self.record(path) - before - 1
+            records, moves, syncs = (after - earlier for after, earlier in zip(self.given(path, noting), before))
+            return Moved(records - 1, moves - 1, syncs)
 
     def assert_taken(self, node, position, parts):
         frames = [Group(1, at, at + 1, changes) for at, changes in enumerate(parts, position)]
         acknowledgements = [Acknowledgement(1, at) for at in range(position, position + len(parts) + 1)]
         self.assertEqual(node.exchange(b"".join(map(text, frames))), b"".join(map(text, acknowledgements)))
 
-    def record(self, path):
-        """The number of the record, while nothing is written."""
-        return int(re.search(rb"^record (\d+)$", self.inspect(path).output, re.MULTILINE)[1])
+    def given(self, path, noting):
+        """The number of the record, its last stamp, and how often the image was synced, while nothing is written."""
+        output = self.inspect(path).output
+        record, stamp = (int(re.search(rb"^%s (\d+)$" % word, output, re.MULTILINE)[1]) for word in (b"record", b"cp"))
+        return record, stamp, sum(call.path == str(path) and call.word in ("sync", "data") for call in noting.calls()) if noting else 0

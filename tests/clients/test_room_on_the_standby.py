@@ -14,7 +14,7 @@ import plain_journal
 from noted_calls import Noting, mixed
 from pair import PATIENCE, PairCases, wait_until
 from plain_image import MORE_LINES, STANDBY, Words
-from plain_keyspace import Put
+from plain_keyspace import Drop, Put
 from plain_replies import OK
 from plain_wire import ACK_BYTES, Acknowledgement, Group, text
 from plain_writer import Writer
@@ -241,6 +241,14 @@ class CutShort(StandingBy):
         puts = [*long, Put((b"s",), b"1"), long[0], Put((b"s",), b"2"), long[1]]
         frames, writer = [Group(1, at, at + 1, (put,)) for at, put in enumerate(puts)], Writer(LINES, STANDBY)
         self.assertEqual([take(writer, frame) for frame in frames], [True, True, True, True, True, False])
+        self.check(writer.words, frames)
+
+    def test_many_versions_are_moved(self):
+        """Of 400 versions of eight lines every other one is dropped. Some 64 of the others are in the way of a long value, and go to the holes together."""
+        puts = [Put((b"%d" % number,), 508 * b"v") for number in range(400)]
+        changes = [tuple(puts), tuple(Drop(put.name) for put in puts[::2]), (Put((b"A",), LONGEST),)]
+        frames, writer = [Group(1, at, at + 1, change) for at, change in enumerate(changes)], Writer(LINES, STANDBY)
+        self.assertEqual([take(writer, frame) for frame in frames], [True, True, False])
         self.check(writer.words, frames)
 
     def test_a_gap_is_cleared(self):

@@ -3,7 +3,7 @@
 
 import plain_image
 import plain_writer
-from plain_image import DIRECTORY_LINE, GAPS_WORD, LAYOUT, MAGIC, PRIMARY, STANDBY, VERSION_1, WORDS_OF_LINE, extents_begin
+from plain_image import DIRECTORY_LINE, GAPS_WORD, LAYOUT, MAGIC, NEWCOMER, PRIMARY, STANDBY, VERSION_1, WORDS_OF_LINE, extents_begin
 from plain_keyspace import Put
 
 LINES = 4_096
@@ -95,7 +95,9 @@ RECORDS = [
     ("epoch 0", DAMAGED, field(epoch=0)),
     ("epoch at the limit", DAMAGED, field(epoch=LIMIT)),
     ("role 0", DAMAGED, field(role=0)),
-    ("role 3", DAMAGED, field(role=3)),
+    ("role 4", DAMAGED, field(role=4)),
+    ("a newcomer at a position", DAMAGED, field(role=NEWCOMER)),
+    ("a newcomer with versions", DAMAGED, field(role=NEWCOMER, position=0)),
     ("33 gaps", DAMAGED, gaps(*[(5 + 2 * k, 5 + 2 * k) for k in range(32)], count=33)),
     ("more gaps than fit a word", DAMAGED, gaps(GAP, count=MOST)),
     ("a gap beyond the count", DAMAGED, gaps(GAP, count=0)),

@@ -15,7 +15,7 @@ import tempfile
 import plain_image
 from common import CAUSE, NEWS, Cases, program, run_program, without_cause
 from damaged_images import BASE, ENTRIES_ALONE, ENTRIES_TOGETHER, RECORDS, SLOT, STRANGE, SUPERBLOCKS, entry
-from plain_image import BOUND, DIRECTORY_LINE, LAYOUT, LAYOUTS, MOST_VALUE_BYTES, PAIR_WORD, PRIMARY, STANDBY, WORDS_OF_LINE, Words
+from plain_image import BOUND, DIRECTORY_LINE, LAYOUT, LAYOUTS, MOST_VALUE_BYTES, NEWCOMER, PAIR_WORD, PRIMARY, STANDBY, WORDS_OF_LINE, Words
 from plain_keyspace import DropKey, Put
 from plain_writer import Writer
 
@@ -24,6 +24,8 @@ PROGRAMS = ["server"]
 LINE_BYTES = 64
 LINES = 4_096
 ROLES = {PRIMARY: "primary", STANDBY: "standby"}
+# (and of a standby before its copy)
+ROLE_NAMES = ROLES | {NEWCOMER: "newcomer"}
 DONE, FAILED, MISUSED, PASSING = 0, 1, 2, 75
 
 # docs/refusals.md, those of images and their files.
@@ -52,7 +54,7 @@ def words_of(data):
 def told(record, live, pair=0):
     """What `inspect` prints of a record with so many live entries, of the pair of this number."""
     lines = [f"version {record.layout.version}", f"record {record.number}", f"position {record.position}", f"cp {record.cp}", f"cd {record.cd}"]
-    lines += [f"epoch {record.epoch}", f"role {ROLES[record.role]}", f"floor {record.floor}", f"pair {pair}", f"gaps {len(record.gaps)}"]
+    lines += [f"epoch {record.epoch}", f"role {ROLE_NAMES[record.role]}", f"floor {record.floor}", f"pair {pair}", f"gaps {len(record.gaps)}"]
     lines += [f"gap {first} {last}" for first, last in record.gaps]
     return "".join(f"{line}\n" for line in [*lines, f"live {live}"]).encode()
 
@@ -377,7 +379,7 @@ class CommandLines(Images):
                 ("no lines", [*good[:3], *good[5:]], b"--lines"),
                 ("no role", good[:5], b"--role"),
                 ("no value", good[:-1], b"--role"),
-                ("another role", [*good[:-1], "newcomer"], b"newcomer"),
+                ("another role", [*good[:-1], "witness"], b"witness"),
                 ("a role in capitals", [*good[:-1], "Primary"], b"Primary"),
                 *((f"a journal of {value!r}", format_words(path, journal=value), b"--journal") for value in ("", "2", "-1", "01", "yes", "true", " 1")),
                 ("no value of a journal", [*good[:5], *good[6:], "--journal"], b"--journal"),

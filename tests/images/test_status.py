@@ -13,7 +13,7 @@ import tempfile
 
 import common
 import plain_image
-from plain_image import LAYOUT, PRIMARY, STANDBY, VERSION_1, Words
+from plain_image import LAYOUT, NEWCOMER, PRIMARY, STANDBY, VERSION_1, Words
 from plain_keyspace import DropKey, Put
 from plain_writer import Writer
 from standby_node import cut_short
@@ -56,7 +56,7 @@ class Status(Looking):
         taken, ended = len(versions.counted) + len(versions.gapped), sum(end != 0 for _, end in versions.counted)
         entries, room = layout.entries(LINES), LINES - 8 - LINES // 8
         lines = room - len(plain_image.free_lines(device, record))
-        role = {PRIMARY: "primary", STANDBY: "standby"}[record.role]
+        role = {PRIMARY: "primary", STANDBY: "standby", NEWCOMER: "newcomer"}[record.role]
         shares = f"versions {taken} of {entries} ({100 * taken // entries} %, {ended} ended), lines {lines} of {room} ({100 * lines // room} %)"
         return f"{name}: {role}, epoch {record.epoch}, position {record.position}, {shares}, gaps {len(record.gaps)}\n"
 

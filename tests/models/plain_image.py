@@ -15,7 +15,7 @@ PAIR_WORD = 6
 GAPS_WORD = 6
 STAMPS_BETWEEN_RECORDS = 4_097
 BOUND = 2**62
-PRIMARY, STANDBY = 1, 2
+PRIMARY, STANDBY, NEWCOMER = 1, 2, 3
 STRING, FIELD = 1, 2
 MOST_KEY_BYTES, MOST_VALUE_BYTES = 512, 1_048_576
 LENGTH_SHIFT = 65_536
@@ -229,6 +229,12 @@ def record_in_place(lines, record):
     return {record.layout.root_word: record.number} | dict(enumerate(record_words(record), slot))
 
 
+def copied(record, position):
+    """The record by which a newcomer's copy counts: all of it has the one stamp above the newcomer's last."""
+    cp = record.cp + 1
+    return record._replace(number=record.number + 1, position=position, cp=cp, cd=cp + STAMPS_BETWEEN_RECORDS, role=STANDBY)
+
+
 def without_oldest_gap(record):
     """The record that clearing a gap writes."""
     return record._replace(number=record.number + 1, gaps=record.gaps[1:])
@@ -259,7 +265,8 @@ def _read_record(device, layout):
     _whole(cd == cp + STAMPS_BETWEEN_RECORDS and cd < BOUND, "cp and cd")
     _whole(1 <= epoch < BOUND, "epoch")
     _whole(count <= layout.most_gaps and not any(map(any, pairs[count:])), "number of gaps")
-    _whole(role in (PRIMARY, STANDBY), "role")
+    _whole(role in (PRIMARY, STANDBY, NEWCOMER), "role")
+    _whole(role != NEWCOMER or position == 0, "position of a newcomer")
     before = 0
     for first, last in pairs[:count]:
         _whole(before < first <= last < cp, "gap")
@@ -273,6 +280,7 @@ def _read_map(device, record, versions):
     for entry in versions:
         _whole(max(entry.begin, entry.end) < record.cd, "stamp at cd or above")
         if record.counts(entry.begin):
+            _whole(record.role != NEWCOMER, "version of a newcomer")
             name, value = _read_version(device, record, entry)
             taken.append((entry.line, entry.line + entry.lines))
             if not record.counts(entry.end):

@@ -4,7 +4,7 @@ candidates."""
 import plain_image
 from plain_device import Device
 from plain_image import (DIRECTORY_LINE, FIELD, LAYOUT, LENGTH_SHIFT, MAGIC, PAIR_WORD, PRIMARY, STAMPS_BETWEEN_RECORDS, STRING, WORDS_OF_LINE, Entry, Record,
-                         Words, extents_begin, record_words, reopened, without_oldest_gap)
+                         Words, copied, extents_begin, record_words, reopened, without_oldest_gap)
 from plain_keyspace import Put
 from plain_room import Part, Place, Room, Table
 
@@ -17,16 +17,18 @@ class Writer:
     for a commit. `places_may_differ` once a standby may have moved versions or cleared gaps to make room: the places of versions, their stamps, and the
     record's number, stamps and gaps are one way then of many. A fence that fails raises Fault: the image is to crash then."""
 
-    def __init__(self, lines, role, device=None, layout=LAYOUT, pair=0):
+    def __init__(self, lines, role, device=None, layout=LAYOUT, pair=0, epoch=1):
         self.lines, self.layout, self.pair = lines, layout, pair
         self.device = device or Device()
-        self.record = Record(1, 0, 0, STAMPS_BETWEEN_RECORDS, 1, (), role, layout)
+        self.record = Record(1, 0, 0, STAMPS_BETWEEN_RECORDS, epoch, (), role, layout)
         # by its entry each version that is not freed: its name and its place
         self._versions = {}
         # the entries of those that have ended, in the order in which they did; of those that an image tells, in rising order
         self._ended = {}
         # entries whose begin lies in a gap, which are in use until that is cleared
         self._gapped = set()
+        # by its entry each version of a newcomer's copy, none of which counts yet
+        self._staged = {}
         self.places_may_differ = False
         self._format()
         self._fill_memory()
@@ -67,7 +69,7 @@ class Writer:
         device = Words(self.lines, self.words)
         image = plain_image.read_image(device, self.layout)
         self.record, self.pair = image.record, image.pair
-        self._versions, self._ended = {}, {}
+        self._versions, self._ended, self._staged = {}, {}, {}
         versions = plain_image.read_versions(device, self.record)
         for entry, end in versions.counted:
             name, place = plain_image.placed(device, entry)
@@ -157,6 +159,32 @@ class Writer:
             return False
         self.room.give(self.commit_parts([self.part(changes)], positions, earlier))
         return True
+
+    def stage(self, puts, position):
+        """A newcomer takes a part of a copy at this position, of which there is room for all: nothing of it counts yet."""
+        if not self.room.take(puts):
+            raise ValueError("no room")
+        places, self.room.given = self.room.given, []
+        lines = []
+        for put, place in zip(puts, places):
+            self._write(put, place, self.record.cp + 1, position)
+            self._staged[place.entry] = self._versions.pop(place.entry)
+            lines += [*range(place.line, place.line + place.lines), line_of_entry(place.entry)]
+        self._fence(lines)
+
+    def commit_staged(self, position):
+        """All that is staged counts, and the newcomer is a standby at this position."""
+        self._put_record(copied(self.record, position))
+        for entry, (name, _) in self._staged.items():
+            self.table.put(name, entry)
+        self._versions, self._staged = self._versions | self._staged, {}
+
+    def drop_staged(self):
+        """Nothing is staged any more. Gives the places, which the room does not have yet."""
+        self._erase(self._staged, 0)
+        self._fence(map(line_of_entry, self._staged))
+        dropped, self._staged = self._staged, {}
+        return [place for _, place in dropped.values()]
 
     def make_room(self, changes):
         """A standby of which no run is long enough for these changes clears its gaps and, where lines and entries are enough, moves versions. Whether it may do

@@ -41,7 +41,7 @@ impl<E: Durable> Promoted<E> {
 /// # Errors
 ///
 /// `NotFenced` exactly where the fence is that of another epoch: the standby is as it was. `Exhausted` if its epoch or the number of its record would
-/// reach 2^62: the standby is as it was. `Fault` if a fence of the device failed, in this call or an earlier one: a crash may leave either image, so
+/// reach 2^62, or if it is a newcomer: the standby is as it was. `Fault` if a fence of the device failed, in this call or an earlier one: a crash may leave either image, so
 /// that it has to be opened again, as what it is then. Each gives the standby back.
 pub fn promote<E: Durable, K: Keyspace + Drop>(
     standby: Standby<E, K>,

@@ -1,5 +1,6 @@
 -- What is known where a step is due.
-use Rattle.std.proofs.Common.{◌≡◌, ◌≤◌, ℕ, Bool, true, false, cond, ◌&&◌, List, [], ◌∷◌, ◌++◌, map, refl, sym, ap, nat_lt, length, ◌∙◌, true≢false}
+use Rattle.std.proofs.Common.{◌≡◌, ◌≤◌, ℕ, Bool, true, false, cond, ◌&&◌, List, [], ◌∷◌, ◌++◌, map, refl, sym, ap, nat_lt, length, Global, ◌∙◌, true≢false}
+use Rattle.std.specs.declared.collections.VecDeque.{VecDeque}
 use Rattle.std.proofs.lemmas.Bool.{leb-true}
 use Rattle.model.specs.declared.group.Group.{Group}
 use Rattle.model.specs.declared.work.FreeList.{FreeList}
@@ -89,8 +90,8 @@ free-due Ready aside items has_room has_gap remote is =
     let parts = not-taken has_room (has_group items) (due_beside (reached_by has_room aside items) has_room has_gap remote) due.Free is (λ e. cc) in
     let first = beside-free (reached_by has_room aside items) has_room has_gap remote parts.1 in
     record { ready = refl; none = parts.0; list = first.0; rest = first.1; reached = first.2; passed = first.3 }
-free-due (Durable group) aside items has_room has_gap remote is = cc
-free-due (Shown group) aside items has_room has_gap remote is = cc
+free-due (Durable groups) aside items has_room has_gap remote is = cc
+free-due (Shown groups) aside items has_room has_gap remote is = cc
 
 -- nothing is in hand, nothing waits or stands aside, the link has room, and the record has a gap
 pub record ClearIsDue (stage : Stage) (aside : List FreeList) (items : List Work) (has_room has_gap : Bool) : Type 0 where
@@ -107,8 +108,8 @@ clear-due Ready aside items has_room has_gap remote is =
     let so = beside-clear (reached_by has_room aside items) has_room has_gap remote parts.1 in
     let none = neither aside (lists_of items) (sym (ap (λ (room : Bool). reached_by room aside items) so.1) ∙ so.0) in
     record { ready = refl; room = so.1; no_work = nothing-waits items (parts.0 so.1) none.1; no_aside = none.0; gap = so.2 }
-clear-due (Durable group) aside items has_room has_gap remote is = cc
-clear-due (Shown group) aside items has_room has_gap remote is = cc
+clear-due (Durable groups) aside items has_room has_gap remote is = cc
+clear-due (Shown groups) aside items has_room has_gap remote is = cc
 
 -- ---- a committer's own
 
@@ -125,8 +126,8 @@ module _ {E : Type 0} (contents : E → Contents) (committer : Committer E) (wai
   pub clear-now : now ≡ due.Clear → ClearIsDue committer.stage committer.aside.items waiting.items has_room has_gap
   clear-now is = clear-due committer.stage committer.aside.items waiting.items has_room has_gap remote is
 
-  pub raise-now : (group : Group) → committer.stage ≡ Durable group → now ≡ due.Raise
-  raise-now group is = ap (λ (stage : Stage). due_of stage committer.aside.items waiting.items has_room has_gap remote) is
+  pub raise-now : (groups : VecDeque Group Global) → committer.stage ≡ Durable groups → now ≡ due.Raise
+  raise-now groups is = ap (λ (stage : Stage). due_of stage committer.aside.items waiting.items has_room has_gap remote) is
 
-  pub hand-now : (group : Group) → committer.stage ≡ Shown group → now ≡ due.Hand
-  hand-now group is = ap (λ (stage : Stage). due_of stage committer.aside.items waiting.items has_room has_gap remote) is
+  pub hand-now : (groups : VecDeque Group Global) → committer.stage ≡ Shown groups → now ≡ due.Hand
+  hand-now groups is = ap (λ (stage : Stage). due_of stage committer.aside.items waiting.items has_room has_gap remote) is

@@ -19,7 +19,8 @@ use Rattle.model.proofs.GroupsLemmas.{IsConsistent-after_group, is_put_at-append
 use Rattle.wbl_engine.specs.Freeing.{after_free, without}
 use Rattle.wbl_engine.proofs.FreeingLemmas.{ended_within}
 use Rattle.wbl_engine.proofs.WithoutLemmas.{AllEnded, versions_without, was_there}
-use Rattle.group_commit.specs.Group.{AreGroups, after_groups}
+use Rattle.wbl_engine.specs.CommittingAll.{AreGroups}
+use Rattle.group_commit.specs.Group.{after_groups}
 
 -- none of the puts is at one of these entries
 abbrev pub NonePut : (ℕ → Bool) → List Put → Type 0

@@ -1,5 +1,5 @@
 -- What a turn comes to, of what its parts did.
-use Rattle.std.proofs.Common.{rules, ◌≡◌, ◌≢◌, ◌↔◌, ℕ, ◌<◌, Bool, true, false, IsTrue, List, [], ◌∷◌, ◌++◌, length, drop, Result, Err, slice_index_or, nat_lt, Global, refl, sym, ap, subst, ◌∙◌, arith}
+use Rattle.std.proofs.Common.{rules, ◌≡◌, ◌≢◌, ◌↔◌, ◌⊎◌, inl, inr, ℕ, zero, suc, ◌==◌, ◌<◌, Bool, true, false, IsTrue, List, [], ◌∷◌, ◌++◌, length, drop, Result, Ok, Err, slice_index_or, nat_lt, Global, refl, sym, ap, subst, ◌∙◌, arith, true≢false}
 use Rattle.std.specs.declared.collections.VecDeque.{VecDeque}
 use Rattle.std.proofs.lemmas.Grind.{flat_map-append}
 use Rattle.pipes.specs.Waiting.{Waiting}
@@ -11,13 +11,16 @@ use Rattle.model.specs.declared.work.FreeList.{FreeList}
 use Rattle.model.specs.declared.work.Work.{Work}
 use Rattle.model.specs.declared.work.Work.TheVariants as work
 use Rattle.model.specs.Group.{AreEnded, Contents}
-use Rattle.group_commit.specs.Committing.{Commits}
+use Rattle.group_commit.specs.Committing.{Commits, HasShown}
 use Rattle.group_commit.specs.Due.{due_now, has_group, left_by, reached_by}
 use Rattle.group_commit.specs.Group.{lists_before, lists_of}
-use Rattle.group_commit.specs.Working.{FreesFirst, IsLawful, LacksRoom, Takes, entries_of_lists}
+use Rattle.group_commit.specs.Working.{FreesFirst, HandsOn, IsLawful, LacksRoom, Takes, entries_of_lists}
 use Rattle.group_commit.specs.declared.committer.Committer.{Committer}
 use Rattle.group_commit.specs.declared.due.Due.{Due}
 use Rattle.group_commit.specs.declared.stage.Done.{Done}
+use Rattle.group_commit.specs.declared.stage.Done.TheVariants.{Handed, Idle}
+use Rattle.group_commit.specs.declared.stage.Stage.{Stage}
+use Rattle.group_commit.specs.declared.stage.Stage.TheVariants.{Ready, Shown}
 use Rattle.group_commit.proofs.FreedLemmas.{AreEnded-first}
 use Rattle.group_commit.proofs.TakingLemmas.{AllAside}
 
@@ -54,6 +57,17 @@ pub reached-ended : (contents : Contents) (has_room : Bool) (aside : List FreeLi
 reached-ended contents true aside items none lawful = subst (λ (lists : List FreeList). AreEnded contents (entries_of_lists (aside ++ lists))) (lists-all items (none refl)) lawful.lists
 reached-ended contents false aside items none lawful = aside-ended contents aside items lawful
 
+-- ---- what is in hand
+
+pub some-left : (n : ℕ) → (n == 0) ≡ false → 0 < n
+some-left zero is = absurd (true≢false is)
+some-left (suc n) is = omega arith
+
+-- a list with an element is to be handed on
+pub shown-list : (list : VecDeque Group Global) (groups : List Group) → list.items ≡ groups → 0 < length groups → HasShown groups (Shown list)
+shown-list list [] is some = absurd (omega (arith, some))
+shown-list list (group ∷ groups) is some = (list, refl, is)
+
 -- ---- the parts of a turn
 
 module _ {E : Type 0} (device : E → State) (contents : E → Contents) (is_faulted : E → Bool) where
@@ -62,9 +76,9 @@ module _ {E : Type 0} (device : E → State) (contents : E → Contents) (is_fau
     abbrev middle : Committer E
     middle = record old { aside = aside }
 
-    pub commits-from : (remote : ℕ) (group : Group) (result : Result Done Refusal) (new : Committer E) → Commits device contents is_faulted remote middle group result new
-        → Commits device contents is_faulted remote old group result new
-    commits-from remote group result new it = search rules
+    pub commits-from : (remote : ℕ) (groups : List Group) (result : Result Done Refusal) (new : Committer E) → Commits device contents is_faulted remote middle groups result new
+        → Commits device contents is_faulted remote old groups result new
+    commits-from remote groups result new it = search rules
 
     pub frees-from : (list : FreeList) (rest : List FreeList) (result : Result Done Refusal) (new : Committer E) → FreesFirst device contents is_faulted middle list rest result new
         → FreesFirst device contents is_faulted old list rest result new
@@ -92,3 +106,28 @@ module _ {E : Type 0} (device : E → State) (contents : E → Contents) (is_fau
         → Took (due_now contents old before (nat_lt 0 (known_room link')) remote) (nat_lt 0 (known_room link'))
     takes-step step room at is took =
         subst (λ (n : ℕ). Took (due_now contents old before (nat_lt 0 n) remote) (nat_lt 0 n)) at (subst (λ (s : Due). Took s (nat_lt 0 room)) (sym is) took)
+
+  -- ---- what is in hand is handed on
+
+  module _ {O : Type 0} (offered : O → List Group) (known_room : O → ℕ) (old new : Committer E) (link link' : O) (result : Result Done Refusal) where
+    -- nothing else changes, and the step is not refused
+    pub record IsBeside : Type 0 where
+      pub answer : (result ≡ Ok Handed) ⊎ (result ≡ Ok Idle)
+      pub engine : new.engine ≡ old.engine
+      pub local : new.local ≡ old.local
+      pub aside : new.aside.items ≡ old.aside.items
+
+    beside : (stage : Stage) → (result ≡ Ok Handed) ⊎ (result ≡ Ok Idle) → new ≡ record old { stage = stage } → IsBeside
+    beside stage answer is = record {
+      answer = answer;
+      engine = ap (λ (c : Committer E). c.engine) is;
+      local = ap (λ (c : Committer E). c.local) is;
+      aside = ap (λ (c : Committer E). c.aside.items) is;
+    }
+
+    pub hands-beside : HandsOn device contents is_faulted offered known_room old link result new link' → IsBeside
+    hands-beside hands = elim hands.came [
+      | inl first ↦ beside new.stage (inl first.answer) first.now
+      | inr (inl full) ↦ beside old.stage (inr full.0) full.1
+      | inr (inr none) ↦ beside Ready (inr none.1) none.2
+    ]

@@ -1,11 +1,12 @@
 -- Groups and free lists that wait, as they come and go.
-use Rattle.std.proofs.Common.{◌≡◌, List, [], ◌∷◌, ◌++◌, map, refl, ap, subst}
+use Rattle.std.proofs.Common.{◌≡◌, List, [], ◌∷◌, ◌++◌, map, refl, ap}
 use Rattle.model.specs.declared.group.Group.{Group}
 use Rattle.model.specs.declared.work.FreeList.{FreeList}
 use Rattle.model.specs.declared.work.Work.{Work}
 use Rattle.model.specs.declared.work.Work.TheVariants as work
 use Rattle.model.specs.Group.{AreEnded, Contents, IsGroup, after_group}
-use Rattle.group_commit.specs.Group.{AreGroups, AreWork, after_work, groups_of, lists_before, lists_of}
+use Rattle.wbl_engine.specs.CommittingAll.{AreGroups}
+use Rattle.group_commit.specs.Group.{AreWork, after_work, groups_of, lists_before, lists_of}
 use Rattle.group_commit.specs.Working.{IsLawful, entries_of_lists}
 
 -- the groups alone are what a commit asks for
@@ -71,6 +72,6 @@ AreWork-behind contents (list ∷ lists) items are = AreWork-behind contents lis
 
 pub lawful : (contents : Contents) (aside : List FreeList) (items : List Work) → AreWork contents items → AreEnded contents (entries_of_lists (aside ++ lists_before items)) → IsLawful contents aside items
 lawful contents aside items are ended = record {
-  group = λ lists group rest is. (AreWork-behind contents lists (work.Commit group ∷ rest) (subst (AreWork contents) is are)).0;
+  groups = AreGroups-of-work contents items are;
   lists = ended;
 }

@@ -34,11 +34,11 @@ abbrev pub due_beside : List FreeList → Bool → Bool → ℕ → Due
 due_beside [] has_room has_gap remote = if has_room && has_gap then due.Clear else due.Nothing
 due_beside (list ∷ lists) has_room has_gap remote = if nat_le list.position remote then due.Free else due.Nothing
 
--- A group in hand is told of, and then handed on. With none in hand, a group that waits is taken, where the link has room for it.
+-- Groups in hand are told of, and then handed on. With none in hand, what waits is taken, where the link has room for a group.
 abbrev pub due_of : Stage → List FreeList → List Work → Bool → Bool → ℕ → Due
 due_of Ready aside items has_room has_gap remote = if has_room && has_group items then due.Commit else due_beside (reached_by has_room aside items) has_room has_gap remote
-due_of (Durable group) aside items has_room has_gap remote = due.Raise
-due_of (Shown group) aside items has_room has_gap remote = due.Hand
+due_of (Durable groups) aside items has_room has_gap remote = due.Raise
+due_of (Shown groups) aside items has_room has_gap remote = due.Hand
 
 -- the step of this committer that is due, with this queue
 abbrev pub due_now : {E : Type 0} → (E → Contents) → Committer E → Waiting Work → Bool → ℕ → Due

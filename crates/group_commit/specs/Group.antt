@@ -6,11 +6,6 @@ use Rattle.model.specs.declared.work.Work.{Work}
 use Rattle.model.specs.declared.work.Work.TheVariants as work
 use Rattle.model.specs.Group.{AreEnded, Contents, IsGroup, after_group}
 
--- each group is what a commit asks for, after those before it
-abbrev pub AreGroups : Contents → List Group → Type 0
-AreGroups contents [] = Unit {0}
-AreGroups contents (group ∷ groups) = IsGroup contents group × AreGroups (after_group contents group) groups
-
 -- the contents after all of the groups
 abbrev pub after_groups : Contents → List Group → Contents
 after_groups contents [] = contents

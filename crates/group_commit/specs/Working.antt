@@ -1,6 +1,8 @@
 -- What a turn of a committer comes to, by the step that was due.
-use Rattle.std.specs.Prelude.{◌≡◌, ◌⊎◌, ℕ, ◌+◌, ◌<◌, ◌≤◌, Bool, false, true, List, [], ◌∷◌, ◌++◌, length, map, Option, Some, None, Result, Ok, Err, IfOk, IfErr, IsErrOf, OnOk, OnErr}
+use Rattle.std.specs.Prelude.{◌≡◌, ◌⊎◌, ℕ, ◌+◌, ◌<◌, ◌≤◌, Bool, false, true, List, [], ◌∷◌, ◌++◌, length, map, min, Option, Some, None, Result, Ok, Err, IfOk, IfErr, IsErrOf, OnOk, OnErr}
+use Rattle.std.specs.Global.{Global}
 use Rattle.std.specs.List.{flat_map}
+use Rattle.std.specs.declared.collections.VecDeque.{VecDeque}
 use Rattle.pmem.specs.Device.{State}
 use Rattle.pmem.specs.Runs.{LeavesOnly}
 use Rattle.kv_types.specs.declared.place.EntryNo.{EntryNo}
@@ -12,15 +14,16 @@ use Rattle.model.specs.declared.work.FreeList.{FreeList}
 use Rattle.model.specs.declared.work.Work.{Work}
 use Rattle.model.specs.declared.work.Work.TheVariants as work
 use Rattle.model.specs.Floor.{floor_raised}
-use Rattle.model.specs.Group.{AreEnded, Contents, IsGroup}
+use Rattle.model.specs.Group.{AreEnded, Contents}
 use Rattle.pipes.specs.Waiting.{Waiting}
 use Rattle.wbl_engine.specs.declared.freeing.Freed.{Freed as Places}
+use Rattle.wbl_engine.specs.CommittingAll.{AreGroups}
 use Rattle.wbl_engine.specs.Contents.{Keeps, IsDurable, Same}
 use Rattle.wbl_engine.specs.Freeing.{Clears, KeepsFreed, after_free, cleared_contents, extents_of}
 use Rattle.wbl_engine.specs.Raising.{ExhaustsRaising}
-use Rattle.group_commit.specs.Committing.{Commits, raised, ready_again}
+use Rattle.group_commit.specs.Committing.{Commits, HasShown, raised, ready_again}
 use Rattle.group_commit.specs.Due.{left_by, reached_by}
-use Rattle.group_commit.specs.Group.{lists_before}
+use Rattle.group_commit.specs.Group.{groups_of, lists_before}
 use Rattle.group_commit.specs.declared.committer.Committer.{Committer}
 use Rattle.group_commit.specs.declared.due.Due.{Due}
 use Rattle.group_commit.specs.declared.due.Due.TheVariants as due
@@ -32,15 +35,23 @@ use Rattle.group_commit.specs.declared.stage.Stage.TheVariants.{Durable, Ready, 
 abbrev pub entries_of_lists : List FreeList → List EntryNo
 entries_of_lists = flat_map (λ list. list.entries.items)
 
--- What waits is lawful: the first group, behind any free lists, is what a commit asks for, and the entries of the lists before it, with those that stand aside, have ended, each listed once.
+-- What waits is lawful: each group is what a commit asks for, after those before it, and the entries of the lists before the first, with those that stand aside,
+-- have ended, each listed once.
 pub record IsLawful (contents : Contents) (aside : List FreeList) (items : List Work) : Type 0 where
-  pub group : (lists : List FreeList) (group : Group) (rest : List Work) → items ≡ map work.Free lists ++ work.Commit group ∷ rest → IsGroup contents group
+  pub groups : AreGroups contents (groups_of items)
   pub lists : AreEnded contents (entries_of_lists (aside ++ lists_before items))
 
 -- These items were free lists, and this group behind them, if one came; else nothing is left.
 abbrev pub AreTaken : List Work → List FreeList → Option Group → List Work → Type 0
 AreTaken before lists (Some group) after = before ≡ map work.Free lists ++ work.Commit group ∷ after
 AreTaken before lists None after = (before ≡ map work.Free lists) × (after ≡ [])
+
+-- These groups were taken from the front of what waits, one after another, each with the free lists before it, which are all of these.
+abbrev pub AreTakenEach : List Work → List FreeList → List Group → List Work → Type 0
+AreTakenEach before lists [] after = (lists ≡ []) × (after ≡ before)
+AreTakenEach before lists (group ∷ groups) after =
+    (first : List FreeList) × (rest : List FreeList) × (between : List Work) × (lists ≡ first ++ rest) × AreTaken before first (Some group) between
+    × AreTakenEach between rest groups after
 
 -- Free lists were taken from the front of what waits and stand aside behind those that did; then that came.
 pub record SetsAside (aside : List FreeList) (before : List Work) (came : Option Group) (aside' : List FreeList) (after : List Work) : Type 0 where
@@ -90,7 +101,7 @@ module _ {E : Type 0} (device : E → State) (contents : E → Contents) (is_fau
     pub moments : is_faulted old.engine ≡ false → LeavesOnly (device old.engine) (device new.engine)
         (λ image. Keeps (contents old.engine) image ⊎ Keeps (cleared_contents (contents old.engine)) image)
 
-  -- room for the lists to stand aside was refused, and nothing changed
+  -- room for what is taken was refused, and nothing changed
   pub record LacksRoom (old : Committer E) (before : Waiting Work) (result : Result Done Refusal) (new : Committer E) (after : Waiting Work) : Type 0 where
     pub answer : result ≡ Err Memory
     pub engine : new.engine ≡ old.engine
@@ -99,14 +110,16 @@ module _ {E : Type 0} (device : E → State) (contents : E → Contents) (is_fau
     pub aside : new.aside.items ≡ old.aside.items
     pub queue : after ≡ before
 
-  -- The free lists that waited first were set aside, behind those that were, and the group behind them was taken; its commit, under a record with this remote
-  -- mark as its floor or a higher one, came to that.
-  pub record TakesGroup (remote : ℕ) (old : Committer E) (before : Waiting Work) (result : Result Done Refusal) (new : Committer E) (after : Waiting Work) : Type 0 where
+  -- The groups that waited were taken, as many as the link has room for, and the free lists before and between them stand aside, behind those that did; the commit
+  -- of the groups, under records with this remote mark as their floor or a higher one, came to that.
+  pub record TakesGroups (room remote : ℕ) (old : Committer E) (before : Waiting Work) (result : Result Done Refusal) (new : Committer E) (after : Waiting Work) : Type 0 where
     pub lists : List FreeList
-    pub group : Group
-    pub taken : before.items ≡ map work.Free lists ++ work.Commit group ∷ after.items
+    pub groups : List Group
+    pub some : 0 < length groups
+    pub many : length groups ≡ min room (length (groups_of before.items))
+    pub taken : AreTakenEach before.items lists groups after.items
     pub set_aside : new.aside.items ≡ old.aside.items ++ lists
-    pub commits : Commits device contents is_faulted remote old group result new
+    pub commits : Commits device contents is_faulted remote old groups result new
 
   -- What was reached was set aside, and the first of it was freed, which the standby has passed, or that came to this.
   pub record FreesReached (has_room : Bool) (remote : ℕ) (old : Committer E) (before : Waiting Work) (result : Result Done Refusal) (new : Committer E) (after : Waiting Work) : Type 0 where
@@ -117,12 +130,12 @@ module _ {E : Type 0} (device : E → State) (contents : E → Contents) (is_fau
     pub left : after.items ≡ left_by has_room before.items
     pub frees : FreesFirst old list rest result new
 
-  -- the local mark was raised to the engine's position, to which the group in hand led
+  -- the local mark was raised to the engine's position, to which the groups in hand led
   pub record RaisesMark (old : Committer E) (result : Result Done Refusal) (new : Committer E) : Type 0 where
-    pub group : Group
-    pub in_hand : old.stage ≡ Durable group
+    pub groups : VecDeque Group Global
+    pub were : old.stage ≡ Durable groups
     pub answer : result ≡ Ok Raised
-    pub now : new ≡ raised device contents is_faulted group old
+    pub now : new ≡ raised device contents is_faulted groups old
 
   -- by what is known of the end of a link at which groups are offered
   module _ {O : Type 0} (offered : O → List Group) (known_room : O → ℕ) where
@@ -131,17 +144,28 @@ module _ {E : Type 0} (device : E → State) (contents : E → Contents) (is_fau
       pub offered_is : offered link' ≡ offered link
       pub room : known_room link ≤ known_room link'
 
-    -- The group in hand was handed on; or the link neither knew of room nor found any, and it stays in hand.
-    pub record HandsOn (old : Committer E) (link : O) (result : Result Done Refusal) (new : Committer E) (link' : O) : Type 0 where
+    -- The first group in hand was handed on, and the others stay in hand.
+    pub record HandsFirst (groups : List Group) (old : Committer E) (link : O) (result : Result Done Refusal) (new : Committer E) (link' : O) : Type 0 where
       pub group : Group
-      pub in_hand : old.stage ≡ Shown group
-      pub came : ((result ≡ Ok Handed) × (new ≡ ready_again old) × (offered link' ≡ offered link ++ group ∷ []))
+      pub rest : List Group
+      pub first : groups ≡ group ∷ rest
+      pub answer : result ≡ Ok Handed
+      pub left : HasShown rest new.stage
+      pub now : new ≡ record old { stage = new.stage }
+      pub offered_is : offered link' ≡ offered link ++ group ∷ []
+
+    -- It was; or the link neither knew of room nor found any, and all stay in hand; or there is none, and the next may be taken.
+    pub record HandsOn (old : Committer E) (link : O) (result : Result Done Refusal) (new : Committer E) (link' : O) : Type 0 where
+      pub groups : VecDeque Group Global
+      pub were : old.stage ≡ Shown groups
+      pub came : HandsFirst groups.items old link result new link'
           ⊎ ((result ≡ Ok Idle) × (new ≡ old) × (known_room link ≡ 0) × (offered link' ≡ offered link))
+          ⊎ ((groups.items ≡ []) × (result ≡ Ok Idle) × (new ≡ ready_again old) × (offered link' ≡ offered link))
 
     -- What a turn came to whose step was due, by whether the link had room, and by the remote mark: that step was taken, or refused, and no other.
     abbrev pub Takes : Due → Bool → ℕ → Committer E → Waiting Work → O → Result Done Refusal → Committer E → Waiting Work → O → Type 0
     Takes due.Commit has_room remote old before link result new after link' =
-        OffersNone link link' × (TakesGroup remote old before result new after ⊎ LacksRoom old before result new after)
+        OffersNone link link' × (TakesGroups (known_room link') remote old before result new after ⊎ LacksRoom old before result new after)
     Takes due.Free has_room remote old before link result new after link' =
         OffersNone link link' × (FreesReached has_room remote old before result new after ⊎ LacksRoom old before result new after)
     Takes due.Clear has_room remote old before link result new after link' = OffersNone link link' × (after ≡ before) × ClearsGap old result new

@@ -1,15 +1,16 @@
 //! The committer.
-ghost use Rattle.std.specs.Prelude.{◌≡◌, ◌≢◌, ◌⊎◌, ◌↔◌, ◌++◌, ◌∷◌, [], ◌<◌, Some, Err, true, false, nat_lt, IsTrue, List, length};
+ghost use Rattle.std.specs.Prelude.{◌≡◌, ◌≢◌, ◌⊎◌, ◌↔◌, ◌∷◌, [], ◌<◌, Some, Ok, Err, true, false, nat_lt, IsTrue, List, length};
 ghost use Rattle.model.specs.declared.group.Group.{Group};
 ghost use Rattle.model.specs.declared.work.FreeList.{FreeList};
-ghost use Rattle.model.specs.Group.{AreEnded, IsGroup};
+ghost use Rattle.model.specs.Group.{AreEnded};
+ghost use Rattle.wbl_engine.specs.CommittingAll.{AreGroups};
 ghost use Rattle.wbl_engine.specs.Contents.{IsDurable};
-ghost use Rattle.group_commit.specs.Committing.{Commits, raised};
+ghost use Rattle.group_commit.specs.Committing.{Commits, HasShown, in_hand, raised};
 ghost use Rattle.group_commit.specs.Due.{due_now, has_group, left_by, reached_by};
-ghost use Rattle.group_commit.specs.Working.{ClearsGap, FreesFirst, IsLawful, LacksRoom, TakesGroup, Takes, entries_of_lists};
+ghost use Rattle.group_commit.specs.Working.{ClearsGap, FreesFirst, HandsFirst, IsLawful, LacksRoom, Takes, TakesGroups, entries_of_lists};
 
 use crate::due::{Due, due_when_ready};
-use crate::queue::set_aside;
+use crate::queue::{set_aside, take_groups};
 use crate::stage::{Done, Stage};
 use kv_types::Refusal;
 use model::{FreeList, Group, Layout, Work};
@@ -19,7 +20,7 @@ use std::alloc::Global;
 use std::collections::VecDeque;
 use wbl_engine::{Committed, Durable};
 
-/// Commits groups, one at a time: each is durable before the local mark tells of it, and told of before it is handed on. Beside that it frees what
+/// Commits groups, all that wait at a time: each is durable before the local mark tells of it, and told of before it is handed on. Beside that it frees what
 /// has ended, once the standby has passed the ends, and clears gaps.
 #[derive(Drop)]
 pub struct Committer<E> {
@@ -48,7 +49,7 @@ impl<E: Durable> Committer<E> {
         }
     }
 
-    /// How far it is with a group.
+    /// How far it is with the groups in hand.
     pub fn stage(&self) -> &Stage
         ensures { result.now ≡ self.now.stage }
     {
@@ -153,14 +154,14 @@ impl<E: Durable> Committer<E> {
 
     /// Takes the one step that is due, and waits for nobody. `remote` is the remote mark: the position up to which everything is durable at the standby.
     ///
-    /// A group in hand is told of, and then handed on to the link. With none in hand, the first group that waits is committed, where the link has room for
-    /// it; the free lists before it go aside. Where no group may be taken, the first free list that is reached is freed, if the standby has passed it, and
-    /// the others go aside; where none is, the oldest gap is cleared.
+    /// Groups in hand are told of, and then handed on to the link, one at a time. With none in hand, the groups that wait are committed, as many as the link has
+    /// room for; the free lists before and between them go aside. Where no group may be taken, the first free list that is reached is freed, if the standby has
+    /// passed it, and the others go aside; where none is, the oldest gap is cleared.
     ///
     /// # Errors
     ///
     /// `Fault` where a fence failed, in this call or an earlier one, and then the engine refuses each later step. `Exhausted` where a counter would reach
-    /// 2^62, and then the engine is as it was. A group that was to be committed was taken either way. `Memory` where memory was refused: for room aside, and
+    /// 2^62, and then the engine is as it was. Groups that were to be committed were taken either way. `Memory` where memory was refused: for what is taken, and
     /// then nothing changed, or for a list to be freed, which stays aside, or for a gap to be cleared; the engine is as it was.
     pub fn turn<O: Outlet<Item = Group>>(
         &mut self,
@@ -170,7 +171,7 @@ impl<E: Durable> Committer<E> {
         remote: u64,
     ) -> Result<Done, Refusal>
         requires lawful { self.old.stage ≡ Stage.Ready → IsLawful (E.contents self.old.engine) self.old.aside.items work.old.items }
-        requires shown { (group : Group) → self.old.stage ≡ Stage.Shown group → O.may_offer link.old group }
+        requires shown { (group : Group) (rest : List Group) → in_hand self.old.stage ≡ group ∷ rest → O.may_offer link.old group }
         // the step that is due where the link has the room that it was found to have
         ensures takes { let has_room = nat_lt 0 (O.known_room link.new) in
             Takes E.device E.contents E.is_faulted O.offered O.known_room (due_now E.contents self.old work.old has_room remote) has_room remote
@@ -180,12 +181,12 @@ impl<E: Durable> Committer<E> {
     {
         match std::mem::replace(&mut self.stage, Stage::Ready) {
             Stage::Ready => self.do_next(alloc, work, link, remote),
-            Stage::Durable(group) => Ok(self.raise_local(group)),
-            Stage::Shown(group) => Ok(self.hand(group, link)),
+            Stage::Durable(groups) => Ok(self.raise_local(groups)),
+            Stage::Shown(groups) => Ok(self.hand(groups, link)),
         }
     }
 
-    /// Takes the step that is due with no group in hand.
+    /// Takes the step that is due with nothing in hand.
     fn do_next<O: Outlet<Item = Group>>(
         &mut self,
         alloc: Global,
@@ -201,40 +202,46 @@ impl<E: Durable> Committer<E> {
         ensures same { O.is_same link.old link.new }
         ensures asked_moment { (E.device self.new.engine).kept ≡ (E.device self.old.engine).kept }
     {
-        let has_room = link.room() > 0;
+        let room = link.room();
+        let has_room = room > 0;
         match self.due(work, has_room, remote) {
-            Due::Commit => self.commit_next(work, remote),
+            Due::Commit => self.commit_all(alloc, work, room, remote),
             Due::Free => self.free_reached(alloc, work, has_room),
             Due::Clear => self.clear_gap(alloc),
             Due::Raise | Due::Hand | Due::Nothing => Ok(Done::Idle),
         }
     }
 
-    /// Takes the first group that waits and commits it. The free lists before it go aside.
-    fn commit_next(&mut self, work: &mut LocalPipe<Work>, remote: u64) -> Result<Done, Refusal>
+    /// Takes the groups that wait, as many as there is room for at the link, and commits them. The free lists before and between them go aside.
+    fn commit_all(
+        &mut self,
+        alloc: Global,
+        work: &mut LocalPipe<Work>,
+        room: usize,
+        remote: u64,
+    ) -> Result<Done, Refusal>
         requires ready { self.old.stage ≡ Stage.Ready }
-        requires lawful { IsLawful (E.contents self.old.engine) self.old.aside.items work.old.items }
         requires some { has_group work.old.items ≡ true }
-        ensures takes { TakesGroup E.device E.contents E.is_faulted remote self.old work.old result self.new work.new
+        requires room { 0 < room }
+        requires lawful { IsLawful (E.contents self.old.engine) self.old.aside.items work.old.items }
+        ensures takes { TakesGroups E.device E.contents E.is_faulted room remote self.old work.old result self.new work.new
             ⊎ LacksRoom E.device E.contents E.is_faulted self.old work.old result self.new work.new }
         ensures asked_moment { (E.device self.new.engine).kept ≡ (E.device self.old.engine).kept }
     {
-        match set_aside(&mut self.aside, work)? {
-            Some(group) => self.commit(group, remote),
-            None => Ok(Done::Idle),
-        }
+        let groups = take_groups(alloc, &mut self.aside, work, room)?;
+        self.commit(groups, remote)
     }
 
-    /// Commits a group, under a record whose floor is this remote mark or higher: the standby has passed what ended up to there. The group is in hand then.
-    fn commit(&mut self, group: Group, remote: u64) -> Result<Done, Refusal>
+    /// Commits groups, under records whose floor is this remote mark or higher: the standby has passed what ended up to there. They are in hand then.
+    fn commit(&mut self, groups: Vec<Group>, remote: u64) -> Result<Done, Refusal>
         requires ready { self.old.stage ≡ Stage.Ready }
-        requires lawful { IsGroup (E.contents self.old.engine) group }
-        ensures commits { Commits E.device E.contents E.is_faulted remote self.old group result self.new }
+        requires lawful { AreGroups (E.contents self.old.engine) groups.items }
+        ensures commits { Commits E.device E.contents E.is_faulted remote self.old groups.items result self.new }
         ensures aside { self.new.aside ≡ self.old.aside }
         ensures asked_moment { (E.device self.new.engine).kept ≡ (E.device self.old.engine).kept }
     {
-        let committed = self.engine.commit(&group, remote)?;
-        self.stage = Stage::Durable(group);
+        let committed = self.engine.commit_all(groups.as_slice(), remote)?;
+        self.stage = Stage::Durable(VecDeque::from_vec(groups));
         Ok(Done::Committed(committed))
     }
 
@@ -287,30 +294,47 @@ impl<E: Durable> Committer<E> {
         Ok(Done::Cleared(cleared))
     }
 
-    /// Raises the local mark to the engine's position, which the group in hand led to.
-    fn raise_local(&mut self, group: Group) -> Done
+    /// Raises the local mark to the engine's position, which the groups in hand led to.
+    fn raise_local(&mut self, groups: VecDeque<Group>) -> Done
         ensures value { result ≡ Done.Raised }
-        ensures raised { self.new ≡ raised E.device E.contents E.is_faulted group self.old }
+        ensures raised { self.new ≡ raised E.device E.contents E.is_faulted groups self.old }
     {
         self.local = self.engine.position();
-        self.stage = Stage::Shown(group);
+        self.stage = Stage::Shown(groups);
         Done::Raised
     }
 
-    /// Hands the group on to the link. Where that has no room the group stays in hand.
-    fn hand<O: Outlet<Item = Group>>(&mut self, group: Group, link: &mut O) -> Done
+    /// Hands the first of these groups on to the link, and keeps the others in hand. Where the link has no room all stay in hand.
+    fn hand<O: Outlet<Item = Group>>(&mut self, groups: VecDeque<Group>, link: &mut O) -> Done
         requires ready { self.old.stage ≡ Stage.Ready }
-        requires may { O.may_offer link.old group }
-        ensures handed { ((result ≡ Done.Handed) × (self.new ≡ self.old) × (O.offered link.new ≡ O.offered link.old ++ group ∷ []))
-            ⊎ ((result ≡ Done.Idle) × (self.new ≡ record self.old { stage = Stage.Shown group }) × (O.known_room link.old ≡ 0) × (O.offered link.new ≡ O.offered link.old)) }
+        requires may { (group : Group) (rest : List Group) → groups.items ≡ group ∷ rest → O.may_offer link.old group }
+        ensures handed { HandsFirst E.device E.contents E.is_faulted O.offered O.known_room groups.items self.old link.old (Ok result) self.new link.new
+            ⊎ ((result ≡ Done.Idle) × (self.new ≡ record self.old { stage = Stage.Shown groups }) × (O.known_room link.old ≡ 0) × (O.offered link.new ≡ O.offered link.old))
+            ⊎ ((groups.items ≡ []) × (result ≡ Done.Idle) × (self.new ≡ self.old) × (O.offered link.new ≡ O.offered link.old)) }
         ensures same { O.is_same link.old link.new }
     {
-        match link.offer(group) {
-            Ok(()) => Done::Handed,
-            Err(group) => {
-                self.stage = Stage::Shown(group);
-                Done::Idle
-            }
+        let mut groups = groups;
+        if link.room() == 0 {
+            self.stage = Stage::Shown(groups);
+            return Done::Idle;
         }
+        let Some(group) = groups.pop_front() else {
+            return Done::Idle;
+        };
+        let Ok(()) = link.offer(group) else {
+            unreachable!();
+        };
+        self.stage = shown(groups);
+        Done::Handed
     }
+}
+
+/// The stage with these groups left to be handed on.
+fn shown(groups: VecDeque<Group>) -> Stage
+    ensures { HasShown groups.items result }
+{
+    if groups.is_empty() {
+        return Stage::Ready;
+    }
+    Stage::Shown(groups)
 }

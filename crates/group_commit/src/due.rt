@@ -12,11 +12,11 @@ use std::collections::VecDeque;
 /// The step that is due.
 #[derive(Debug, Clone, Copy, PartialEq, Eq)]
 pub enum Due {
-    /// The first group that waits is to be committed. The free lists before it go aside.
+    /// The groups that wait are to be committed, as many as the link has room for. The free lists before and between them go aside.
     Commit,
-    /// The local mark is to be raised to the group that was committed.
+    /// The local mark is to be raised to the groups that were committed.
     Raise,
-    /// The group that the local mark tells of is to be handed on to the link.
+    /// The first group in hand, which the local mark tells of, is to be handed on to the link.
     Hand,
     /// The first free list that is reached is to be freed: the standby has passed it.
     Free,

@@ -1,26 +1,27 @@
-//! How far a committer is with a group, and what a turn of it came to.
+//! How far a committer is with the groups in hand, and what a turn of it came to.
 use model::Group;
+use std::collections::VecDeque;
 use wbl_engine::{Committed, Freed};
 
-/// How far the committer is with a group.
+/// How far the committer is with the groups that it took.
 #[derive(Debug, Drop)]
 pub enum Stage {
-    /// It may take the next one.
+    /// It may take the next ones.
     Ready,
-    /// It has committed this one, and not raised the local mark to it.
-    Durable(Group),
-    /// It has raised the local mark to this one, and not handed it on.
-    Shown(Group),
+    /// It has committed these, and not raised the local mark to the last of them.
+    Durable(VecDeque<Group>),
+    /// It has raised the local mark to the last of these, and not handed them on.
+    Shown(VecDeque<Group>),
 }
 
 /// What a turn came to.
 #[derive(Debug, Drop)]
 pub enum Done {
-    /// A group was taken and committed: the engine says up to which position everything is durable now.
+    /// Groups were taken and committed: the engine says up to which position everything is durable now.
     Committed(Committed),
     /// The local mark was raised to the engine's position.
     Raised,
-    /// The group was handed on.
+    /// The first group in hand was handed on.
     Handed,
     /// The oldest free list aside was freed.
     Freed(Freed),

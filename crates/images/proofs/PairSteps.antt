@@ -8,7 +8,6 @@ use Rattle.pmem.specs.Runs.{IsPartlyStored, IsStored, LeavesOnly}
 use Rattle.pmem.proofs.Leaving.{LeavesOnly-weaken, none_leaves}
 use Rattle.model.specs.declared.layout.Layout.{Layout}
 use Rattle.model.specs.declared.record.Record.{Record}
-use Rattle.model.specs.declared.record.Role.{Role}
 use Rattle.model.specs.Group.{Contents}
 use Rattle.model.specs.Image.{Image}
 use Rattle.wbl_record.proofs.Mixing.{IsMixed, mixed}
@@ -17,6 +16,7 @@ use Rattle.wbl_migrate.specs.Migrating.{IsImageOf}
 use Rattle.wbl_migrate.specs.Steps.{KeepsOthers, Leaves}
 use Rattle.wbl_migrate.proofs.Touching.{IsStep, one_stored, step_keeps, value_stored}
 use Rattle.images.specs.Pair.{IsFormatted, IsNumbering}
+use Rattle.images.specs.declared.formatting.NewImage.{NewImage}
 use Rattle.images.specs.declared.pair.TheConstants.{PAIR_WORD}
 use Rattle.images.proofs.PairLemmas.{contents_same, image_same}
 
@@ -85,13 +85,13 @@ settled_after {old} {new} {pair} settled keeps certain word =
 
 -- ---- a new image
 
-pub is_formatted : {lines made pair : ℕ} {role : Role} {contents : Contents} {engine old new : State} → made ≡ lines → IsNew made role contents
-    → old ≡ engine → IsDurable engine contents
-    → ((others : Contents) → IsDurable old others → LeavesOnly old new (Keeps others)) → Only (new.words PAIR_WORD) pair → IsFormatted lines role pair new
-is_formatted {lines} {made} {pair} {role} {contents} {engine} {old} {new} same is_new given durable keeps number =
+pub is_formatted : {asked : NewImage} {made : ℕ} {contents : Contents} {engine old new : State} → made ≡ asked.lines
+    → IsNew made asked.role asked.epoch contents → old ≡ engine → IsDurable engine contents
+    → ((others : Contents) → IsDurable old others → LeavesOnly old new (Keeps others)) → Only (new.words PAIR_WORD) asked.pair → IsFormatted asked new
+is_formatted {asked} {made} {contents} {engine} {old} {new} same is_new given durable keeps number =
     record {
       contents = contents;
-      new = subst (λ (n : ℕ). IsNew n role contents) same is_new;
+      new = subst (λ (n : ℕ). IsNew n asked.role asked.epoch contents) same is_new;
       durable = λ image is. (keeps contents (subst (λ (d : State). IsDurable d contents) (sym given) durable)).each image (inl is);
       number = number;
     }

@@ -2,10 +2,10 @@
 use Rattle.std.specs.Prelude.{◌≡◌, ◌≢◌, ◌⊎◌, ℕ}
 use Rattle.pmem.specs.Device.{State, Word, Only}
 use Rattle.pmem.specs.Crash.{IsImage}
-use Rattle.model.specs.declared.record.Role.{Role}
 use Rattle.model.specs.Group.{Contents}
 use Rattle.model.specs.Image.{Image}
 use Rattle.wbl_engine.specs.Contents.{IsDurable, IsNew}
+use Rattle.images.specs.declared.formatting.NewImage.{NewImage}
 use Rattle.images.specs.declared.pair.TheConstants.{PAIR_WORD}
 
 -- the number in an image
@@ -23,9 +23,9 @@ pub record IsNumbering (words : ℕ → Word) (pair : ℕ) (image : Image) : Typ
   pub same : IsButForPair base image
   pub number : (pair_in image ≡ pair_in base) ⊎ (pair_in image ≡ pair)
 
--- Each crash leaves a new image of so many lines for this role, with this number.
-pub record IsFormatted (lines : ℕ) (role : Role) (pair : ℕ) (device : State) : Type 0 where
+-- Each crash leaves this new image, with its number.
+pub record IsFormatted (asked : NewImage) (device : State) : Type 0 where
   pub contents : Contents
-  pub new : IsNew lines role contents
+  pub new : IsNew asked.lines asked.role asked.epoch contents
   pub durable : IsDurable device contents
-  pub number : Only (device.words PAIR_WORD) pair
+  pub number : Only (device.words PAIR_WORD) asked.pair

@@ -11,7 +11,7 @@ use Rattle.model.specs.declared.layout.TheConstants.{LAYOUT}
 use Rattle.model.specs.Layout.{version}
 use Rattle.model.specs.declared.record.Gap.{Gap}
 use Rattle.model.specs.declared.record.Role.{Role}
-use Rattle.model.specs.declared.record.Role.TheVariants.{Primary, Standby}
+use Rattle.model.specs.declared.record.Role.TheVariants.{Newcomer, Primary, Standby}
 use Rattle.model.specs.declared.record.Record.{Record}
 use Rattle.model.specs.Group.{Contents}
 use Rattle.model.specs.Image.{Image, entries_of_lines}
@@ -48,6 +48,7 @@ number_line word number = word ++ codes " " ++ decimal number ++ newline
 abbrev pub role_line : Role → List ℕ
 role_line Primary = codes "role primary" ++ newline
 role_line Standby = codes "role standby" ++ newline
+role_line Newcomer = codes "role newcomer" ++ newline
 
 abbrev pub gap_line : Gap → List ℕ
 gap_line gap = codes "gap " ++ decimal gap.first ++ codes " " ++ decimal gap.last ++ newline

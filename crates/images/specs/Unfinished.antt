@@ -2,22 +2,23 @@
 use Rattle.std.specs.Prelude.{◌≡◌, ℕ, ◌≤◌, ◌<◌, ◌*◌}
 use Rattle.model.specs.declared.layout.TheConstants.{DIRECTORY_LINE, LAYOUT}
 use Rattle.model.specs.declared.record.Record.{Record}
-use Rattle.model.specs.declared.record.Role.{Role}
 use Rattle.model.specs.Layout.{first_slot_line}
 use Rattle.model.specs.Image.{Image, first_extent_line}
 use Rattle.wbl_engine.specs.Lawful.{IsUndamaged}
+use Rattle.images.specs.declared.formatting.NewImage.{NewImage}
 
--- the first record of an image of this role: each opening writes another one
-pub record IsFirst (of : Role) (current : Record) : Type 0 where
+-- the first record of this image: each opening writes another one
+pub record IsFirst (new : NewImage) (current : Record) : Type 0 where
   pub number : current.number ≡ 1
   pub position : current.position ≡ 0
-  pub role : current.role ≡ of
+  pub role : current.role ≡ new.role
+  pub epoch : current.epoch ≡ new.epoch
 
--- An undamaged image has the first record of this role.
-pub record IsUnused (lines : ℕ) (of : Role) (image : Image) : Type 0 where
+-- An undamaged image has the first record of this new one.
+pub record IsUnused (lines : ℕ) (new : NewImage) (image : Image) : Type 0 where
   pub current : Record
   pub undamaged : IsUndamaged lines current image
-  pub first : IsFirst of current
+  pub first : IsFirst new current
 
 -- all words of the lines from the first on, up to the second, are zero
 abbrev pub AreZero : (first end : ℕ) → Image → Type 0

@@ -75,6 +75,7 @@ pub(crate) fn print_role<W: Write>(role: Role, writer: &mut W) -> io::Result<()>
     match role {
         Role::Primary => writeln!(writer, "role primary"),
         Role::Standby => writeln!(writer, "role standby"),
+        Role::Newcomer => writeln!(writer, "role newcomer"),
     }
 }
 

@@ -20,7 +20,7 @@ mod unfinished;
 
 pub use causes::{tell_cause, tell_cause_of_giving, tell_cause_of_making, tell_cause_of_reading};
 pub use failure::{DONE, Failure, Kept, tell};
-pub use formatting::format;
+pub use formatting::{NewImage, format};
 pub use images::{Files, Images};
 pub use inspecting::inspect;
 pub use journaling::{add_journal, settle};

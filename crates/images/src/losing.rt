@@ -53,6 +53,8 @@ fn owner(role: Role) -> &'static str {
     match role {
         Role::Primary => "primary's",
         Role::Standby => "standby's",
+        // (which holds nothing, so that nothing is lost with it)
+        Role::Newcomer => "newcomer's",
     }
 }
 

@@ -10,7 +10,7 @@ ghost use Rattle.model.specs.declared.image.TheConstants.{COUNTER_LIMIT};
 ghost use Rattle.model.specs.declared.layout.Layout.{Layout};
 ghost use Rattle.model.specs.declared.record.Record.{Record as CommitRecord};
 ghost use Rattle.model.specs.declared.record.Role.{Role as NodeRole};
-ghost use Rattle.model.specs.declared.record.Role.TheVariants.{Primary, Standby};
+ghost use Rattle.model.specs.declared.record.Role.TheVariants.{Newcomer, Primary, Standby};
 ghost use Rattle.model.specs.Group.{Contents};
 ghost use Rattle.model.specs.Image.{Image, HasRecord, HasSuperblock, entries_of_lines, version_at};
 ghost use Rattle.heap_layout.specs.Superblock.{super_refusal};
@@ -33,17 +33,19 @@ use std::random::RandomSource;
 /// The word of the superblock that holds the number, in images of each version.
 pub const PAIR_WORD: u64 = 6;
 
-/// What stands there in an image that has none: a standby's that has taken no frame yet, or one of a release that knew no numbers.
+/// What stands there in an image that has none: a standby's or a newcomer's that has taken no frame yet, or one of a release that knew no numbers.
 pub const NO_PAIR: u64 = 0;
 
-/// The number of a new image for this role: a primary's begins a pair, whose number is drawn; a standby's belongs to none yet. Only `Random`.
+/// The number of a new image for this role: a primary's begins a pair, whose number is drawn; any other belongs to none yet. Only `Random`.
 pub fn new_pair<N: RandomSource>(rt: &N, role: Role) -> Result<u64, ServeError>
     ensures primary { role ≡ Primary → IfOk result (λ pair. (0 < pair) × (pair < COUNTER_LIMIT)) }
     ensures standby { role ≡ Standby → result ≡ Ok NO_PAIR }
+    ensures newcomer { role ≡ Newcomer → result ≡ Ok NO_PAIR }
 {
     match role {
         Role::Primary => draw_pair(rt),
         Role::Standby => Ok(NO_PAIR),
+        Role::Newcomer => Ok(NO_PAIR),
     }
 }
 

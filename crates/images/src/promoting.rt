@@ -88,8 +88,9 @@ fn may_promote<P: Pmem, R: Read, E: Write>(
         return Ok(());
     }
     match current.role {
-        // (which is refused as such)
+        // (which are refused as such)
         Role::Primary => Ok(()),
+        Role::Newcomer => Ok(()),
         Role::Standby => confirm_empty(name, is_asked, reader, errors),
     }
 }

@@ -6,10 +6,11 @@ ghost use Rattle.pmem.specs.Crash.{image_of};
 ghost use Rattle.images.specs.Unfinished.{AreZero, IsFirst, IsLeft, IsUnfinished, IsUnused};
 ghost use Rattle.images.specs.declared.unfinished.InTheWay.TheVariants as found;
 
+use crate::formatting::NewImage;
 use crate::images::Images;
 use journal::{MAX_PART_LINES, Shape};
 use kv_types::Refusal;
-use model::{DIRECTORY_LINE, LAYOUT, LINE_WORDS, Layout, MIN_LINES, Record, Role};
+use model::{DIRECTORY_LINE, LAYOUT, LINE_WORDS, Layout, MIN_LINES, Record};
 use pmem::Pmem;
 use std::alloc::Global;
 
@@ -24,39 +25,37 @@ pub enum InTheWay {
     Other,
 }
 
-/// What the file of this name is, where an image of so many lines and this role is to be made, with a journal or without. It is as it was. Only `Memory`.
+/// What the file of this name is, where this image is to be made. It is as it was. Only `Memory`.
 pub fn in_the_way<I: Images>(
     alloc: Global,
     images: &I,
     name: &str,
-    lines: u64,
-    role: Role,
-    has_journal: bool,
+    new: NewImage,
 ) -> Result<InTheWay, Refusal>
     ensures cause { IfErr result (λ refusal. refusal ≡ Memory) }
 {
-    if !images.has_size(name, lines, has_journal) {
+    if !images.has_size(name, new.lines, new.has_journal) {
         return Ok(InTheWay::Other);
     }
     match images.read_only(name) {
-        Ok(device) if device.lines() == lines => found_on(alloc, &device, role),
+        Ok(device) if device.lines() == new.lines => found_on(alloc, &device, new),
         // (all lines of the file are read as its image where none of it is written yet)
-        Ok(device) if is_left_of(&device, lines) => Ok(InTheWay::Unfinished),
+        Ok(device) if is_left_of(&device, new.lines) => Ok(InTheWay::Unfinished),
         Err(Refusal::Memory) => Err(Refusal::Memory),
         _ => Ok(InTheWay::Other),
     }
 }
 
 /// What this device holds. Only `Memory`.
-fn found_on<P: Pmem>(alloc: Global, device: &P, role: Role) -> Result<InTheWay, Refusal>
+fn found_on<P: Pmem>(alloc: Global, device: &P, new: NewImage) -> Result<InTheWay, Refusal>
     requires { MIN_LINES ≤ (P.state device.now).lines }
-    ensures unused { result ≡ Ok found.Unused → IsUnused (P.state device.now).lines role (image_of (P.state device.now).words) }
+    ensures unused { result ≡ Ok found.Unused → IsUnused (P.state device.now).lines new (image_of (P.state device.now).words) }
     ensures unfinished { result ≡ Ok found.Unfinished
         → IsUnfinished (P.state device.now).lines (P.state device.now).lines (image_of (P.state device.now).words) }
     ensures cause { IfErr result (λ refusal. refusal ≡ Memory) }
 {
     match wbl_engine::inspect(alloc, device, LAYOUT) {
-        Ok((current, _)) => Ok(if is_first(&current, role) {
+        Ok((current, _)) => Ok(if is_first(&current, new) {
             InTheWay::Unused
         } else {
             InTheWay::Other
@@ -71,11 +70,14 @@ fn found_on<P: Pmem>(alloc: Global, device: &P, role: Role) -> Result<InTheWay, 
     }
 }
 
-/// Whether this record is that of a new image of this role: each opening writes another one.
-fn is_first(current: &Record, role: Role) -> bool
-    ensures { result ≡ true → IsFirst role current.now }
+/// Whether this record is that of this new image: each opening writes another one.
+fn is_first(current: &Record, new: NewImage) -> bool
+    ensures { result ≡ true → IsFirst new current.now }
 {
-    current.number == 1 && current.position == 0 && current.role == role
+    current.number == 1
+        && current.position == 0
+        && current.role == new.role
+        && current.epoch == new.epoch
 }
 
 /// Whether a device has what is left where a format was cut, of an image of all its lines or of one with room for a journal behind it.

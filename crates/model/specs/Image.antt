@@ -13,7 +13,7 @@ use Rattle.model.specs.Layout as layouts
 use Rattle.model.specs.declared.record.Gap.{Gap}
 use Rattle.model.specs.declared.record.Record.{Record}
 use Rattle.model.specs.declared.record.Role.{Role}
-use Rattle.model.specs.declared.record.Role.TheVariants.{Primary, Standby}
+use Rattle.model.specs.declared.record.Role.TheVariants.{Newcomer, Primary, Standby}
 
 abbrev pub Image : Type 0
 Image = ℕ → ℕ
@@ -46,6 +46,7 @@ pub record HasSuperblock (layout : Layout) (lines : ℕ) (image : Image) : Type 
 abbrev pub role_number : Role → ℕ
 role_number Primary = 1
 role_number Standby = 2
+role_number Newcomer = 3
 
 abbrev pub gap_words : Gap → List ℕ
 gap_words gap = gap.first ∷ gap.last ∷ []

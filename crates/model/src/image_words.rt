@@ -120,6 +120,7 @@ fn read_role(number: u64) -> Option<Role>
     match number {
         1 => Some(Role::Primary),
         2 => Some(Role::Standby),
+        3 => Some(Role::Newcomer),
         _ => None,
     }
 }

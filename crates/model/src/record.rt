@@ -8,11 +8,13 @@ pub const MAX_GAPS: usize = 32;
 /// The epoch of new images. Each promotion adds one.
 pub const FIRST_EPOCH: u64 = 1;
 
-/// Whether a node serves clients or stands by.
+/// What a node is: it serves clients, or it stands by, or it stands by and holds nothing yet.
 #[derive(Clone, Copy, Debug, PartialEq, Eq)]
 pub enum Role {
     Primary = 1,
     Standby = 2,
+    /// A standby that has not got its copy: its image holds nothing, at position 0. Its epoch is that of its record.
+    Newcomer = 3,
 }
 
 /// Stamps that were never committed: all from `first` to `last`.
@@ -29,7 +31,7 @@ pub struct Record {
     pub layout: Layout,
     /// Its number, from 1. Record `n` is in slot `n mod 2`.
     pub number: u64,
-    /// The position of the list of calls: how many calls changed something.
+    /// The position of the list of calls: how many calls changed something. A newcomer's is 0.
     pub position: u64,
     /// Each stamp up to this one is durable, except those in a gap.
     pub cp: u64,

@@ -5,11 +5,9 @@ use Rattle.model.specs.declared.group.Group.{Group}
 use Rattle.model.specs.declared.work.FreeList.{FreeList}
 use Rattle.model.specs.declared.work.Work.{Work}
 use Rattle.model.specs.declared.work.Work.TheVariants as work
-use Rattle.group_commit.specs.declared.stage.Stage.{Stage}
-use Rattle.group_commit.specs.declared.stage.Stage.TheVariants.{Ready, Durable, Shown}
 use Rattle.machine.specs.Event.{Committer as Machine, Commits, Frees, Stage as MachineStage, Span, Work as MachineWork, from_group, lists_before}
 use Rattle.machine.specs.World as machine_stage
-use Rattle.node_steps.specs.Committing.{Committing, CommittingRefines, StageRefines}
+use Rattle.node_steps.specs.Committing.{Committing, CommittingRefines, Durable, Ready, Shown, Stage, StageRefines}
 use Rattle.node_steps.specs.GroupSpan.{AreWorkOf, IsGroupOf, positions_of_lists}
 use Rattle.node_steps.proofs.GroupSpanLemmas.{IsGroupOf-grows}
 use Rattle.node_steps.proofs.QueueLemmas.{AreWorkOf-grows}

@@ -11,6 +11,8 @@ pub mod Meanwhile
 pub mod OthersLemmas
 pub mod HistoryLemmas
 pub mod CommitterActs
+pub mod FreeingActs
+pub mod GroupActs
 pub mod CommitterTurns
 pub mod FrontActs
 pub mod SeatActs

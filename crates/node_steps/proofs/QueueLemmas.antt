@@ -11,13 +11,12 @@ use Rattle.group_commit.specs.Due.{due_beside, due_of, has_group, reached_by}
 use Rattle.group_commit.specs.Group.{lists_of}
 use Rattle.group_commit.specs.declared.due.Due.{Due}
 use Rattle.group_commit.specs.declared.due.Due.TheVariants as due
-use Rattle.group_commit.specs.declared.stage.Stage.{Stage}
-use Rattle.group_commit.specs.declared.stage.Stage.TheVariants.{Ready, Durable, Shown}
+use Rattle.group_commit.specs.declared.stage.Stage.TheVariants as committer_stage
 use Rattle.machine.specs.declared.event.Event.TheVariants.{ClearGap, Commit, Free}
 use Rattle.machine.specs.Event.{Commits, Frees, Span, Stage as MachineStage, Work as MachineWork, World, first_is_within, from_group, has_room, is_ready, may_happen, reached_lists}
 use Rattle.machine.specs.Event as machine
 use Rattle.machine.specs.World as machine_stage
-use Rattle.node_steps.specs.Committing.{Committing, CommittingRefines, StageRefines}
+use Rattle.node_steps.specs.Committing.{Committing, CommittingRefines, Durable, Ready, Shown, Stage, StageRefines}
 use Rattle.node_steps.specs.GroupSpan.{AreWorkOf, IsWorkOf, positions_of_lists}
 use Rattle.node_steps.proofs.GroupSpanLemmas.{IsGroupOf-grows}
 
@@ -108,7 +107,7 @@ free-second true false step = refl
 free-second false true step = refl
 free-second false false step = refl
 
-clear-last : (aside : List FreeList) (items : List Work) (room gap : Bool) (remote : ℕ) → is_clear (due_of Ready aside items room gap remote)
+clear-last : (aside : List FreeList) (items : List Work) (room gap : Bool) (remote : ℕ) → is_clear (due_of committer_stage.Ready aside items room gap remote)
     ≡ (room && not (is_nonempty items) && not (is_nonempty aside) && gap)
 unfolding is_clear
 clear-last [] items false gap remote = refl
@@ -135,6 +134,12 @@ still-free false low high positions le is = within-later low high positions le i
 
 -- ---- what is due may happen
 
+-- the step that is due where the committer is so far with one group
+abbrev pub due_at : Stage → List FreeList → List Work → Bool → Bool → ℕ → Due
+due_at Ready aside items room gap remote = due_of committer_stage.Ready aside items room gap remote
+due_at (Durable group) aside items room gap remote = due.Raise
+due_at (Shown group) aside items room gap remote = due.Hand
+
 reached-by : (room : Bool) (aside waits : List FreeList) → positions_of_lists (cond room (aside ++ waits) aside) ≡ cond room (positions_of_lists aside ++ positions_of_lists waits) (positions_of_lists aside)
 reached-by true aside waits = map-append (λ (list : FreeList). list.position) aside waits
 reached-by false aside waits = refl
@@ -157,7 +162,7 @@ module _ (w : World) (code : Committing) (room : Bool) (refines : CommittingRefi
 
   module _ (remote gaps : ℕ) where
     abbrev now : Due
-    now = due_of code.stage code.aside code.waiting.items room (nat_lt 0 gaps) remote
+    now = due_at code.stage code.aside code.waiting.items room (nat_lt 0 gaps) remote
 
     may-commit : (has_group code.waiting.items && room) ≡ (is_nonempty (from_group w.primary.committer.waiting) && has_room w.primary.link.waiting)
     may-commit = ap₂ (λ (some room : Bool). some && room) (has_group-work calls code.waiting.items w.primary.committer.waiting refines.work) room-is
@@ -167,7 +172,7 @@ module _ (w : World) (code : Committing) (room : Bool) (refines : CommittingRefi
     commit-is = by code.stage w.primary.committer.stage refines.stage_is
       where
         by : (stage : Stage) (stage' : MachineStage) → StageRefines calls stage stage'
-            → is_commit (due_of stage code.aside code.waiting.items room (nat_lt 0 gaps) remote)
+            → is_commit (due_at stage code.aside code.waiting.items room (nat_lt 0 gaps) remote)
             ≡ (is_ready stage' && is_nonempty (from_group w.primary.committer.waiting) && has_room w.primary.link.waiting)
         by Ready machine_stage.Ready is =
             commit-first room (has_group code.waiting.items) (due_beside (reached_by room code.aside code.waiting.items) room (nat_lt 0 gaps) remote)
@@ -178,7 +183,7 @@ module _ (w : World) (code : Committing) (room : Bool) (refines : CommittingRefi
 
     -- where a free list is due by a mark, it is covered by each that is as high
     free-is : (stage : Stage) (stage' : MachineStage) → StageRefines calls stage stage' → remote ≤ w.primary.link.remote
-        → is_free (due_of stage code.aside code.waiting.items room (nat_lt 0 gaps) remote) ≡ true
+        → is_free (due_at stage code.aside code.waiting.items room (nat_lt 0 gaps) remote) ≡ true
         → (is_ready stage' && not (is_ready stage' && is_nonempty (from_group w.primary.committer.waiting) && has_room w.primary.link.waiting)
         && first_is_within w.primary.link.remote (reached_lists w)) ≡ true
     unfolding is_free
@@ -196,7 +201,7 @@ module _ (w : World) (code : Committing) (room : Bool) (refines : CommittingRefi
     clear-is same = by code.stage w.primary.committer.stage refines.stage_is
       where
         by : (stage : Stage) (stage' : MachineStage) → StageRefines calls stage stage'
-            → is_clear (due_of stage code.aside code.waiting.items room (nat_lt 0 gaps) remote)
+            → is_clear (due_at stage code.aside code.waiting.items room (nat_lt 0 gaps) remote)
             ≡ (is_ready stage' && has_room w.primary.link.waiting && not (is_nonempty w.primary.committer.waiting) && not (is_nonempty w.primary.committer.aside) && nat_lt 0 w.primary.gaps)
         by Ready machine_stage.Ready is =
             clear-last code.aside code.waiting.items room (nat_lt 0 gaps) remote

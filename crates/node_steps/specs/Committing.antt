@@ -2,6 +2,7 @@
 use Rattle.std.specs.Prelude.{◌≡◌, ℕ, Bool, false, List}
 use Rattle.pmem.specs.Device.{State}
 use Rattle.model.specs.declared.call.Call.{Call}
+use Rattle.model.specs.declared.group.Group.{Group}
 use Rattle.model.specs.declared.work.FreeList.{FreeList}
 use Rattle.model.specs.declared.work.Work.{Work}
 use Rattle.model.specs.Call.{keyspace_after, cut_at}
@@ -11,8 +12,6 @@ use Rattle.model.specs.Standing.{Holder}
 use Rattle.wbl_engine.specs.Contents.{IsDurable}
 use Rattle.wbl_engine.specs.Lawful.{AreLawful}
 use Rattle.pipes.specs.Waiting.{Waiting}
-use Rattle.group_commit.specs.declared.stage.Stage.{Stage}
-use Rattle.group_commit.specs.declared.stage.Stage.TheVariants.{Ready, Durable, Shown}
 use Rattle.machine.specs.Event.{Committer as Machine, Stage as MachineStage}
 use Rattle.machine.specs.World as machine_stage
 use Rattle.node_steps.specs.GroupSpan.{AreWorkOf, IsGroupOf, positions_of_lists}
@@ -36,6 +35,12 @@ pub record EngineStands (holder : Holder) (calls : List Call) (position : ℕ) (
   pub durable : IsDurable device contents
 
 -- ---- the committer
+
+-- how far it is with one group, as the machine tells it, which commits, shows and hands on one group after another
+pub data Stage : Type 0 where
+  Ready : Stage
+  Durable : Group → Stage
+  Shown : Group → Stage
 
 -- what waits for the committer, and what it has beside its engine
 pub record Committing : Type 0 where

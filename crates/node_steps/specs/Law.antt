@@ -18,11 +18,11 @@ use Rattle.pipes.specs.Waiting.{Waiting}
 use Rattle.multi_watch.specs.Session.{idle_session}
 use Rattle.redis_core.specs.Sequencing.{MovesSeat, Sequencing, TakesBack}
 use Rattle.redis_core.specs.Turn.{Answers}
+use Rattle.group_commit.specs.Committing.{in_hand}
 use Rattle.group_commit.specs.Due.{due_now}
 use Rattle.group_commit.specs.Working.{Takes}
 use Rattle.group_commit.specs.declared.committer.Committer.{Committer}
 use Rattle.group_commit.specs.declared.stage.Done.{Done}
-use Rattle.group_commit.specs.declared.stage.Stage.TheVariants.{Ready}
 use Rattle.primary.specs.Closing.{ClosesOne}
 use Rattle.primary.specs.Recalling.{RecallsEach}
 use Rattle.primary.specs.Resuming.{IsOver}
@@ -31,7 +31,7 @@ use Rattle.machine.specs.Event.{Running, World, new_committer}
 use Rattle.machine.specs.Sound.{Sound}
 use Rattle.node_steps.specs.Acts.{Act, AreActs, Closed, GoesOn, IsAct, Left, Seated, Told, Turned, handed_by}
 use Rattle.node_steps.specs.Clauses.{acts_of, node_of, noted}
-use Rattle.node_steps.specs.Committing.{EngineStands}
+use Rattle.node_steps.specs.Committing.{EngineStands, Ready}
 use Rattle.node_steps.specs.Node.{Node, NodeRefines, past_of}
 use Rattle.node_steps.specs.Others.{OthersRun}
 
@@ -75,11 +75,12 @@ OpeningsStand =
 
 -- by what is known of an engine, and of the end of a link at which groups are offered
 module _ {E O : Type 0} (device : E → State) (contents : E → Contents) (is_faulted : E → Bool) (offered : O → List Group) (known_room : O → ℕ) where
-  -- it was the acts that its answer names, and what was offered are the groups that they hand on
+  -- It was the acts that its answer names, and the groups that they hand on were offered, or are in hand and come next.
   abbrev pub Was : List (Option ℕ) → Sequencing → List Places → Bool → ℕ → Committer E → Waiting Work → O → Result Done Refusal → Committer E → Waiting Work → O → Type 0
   Was seats s notices room remote old before link result new after link' =
-      AreActs (node_of device contents is_faulted seats s notices old before) (acts_of old.stage room remote result) (node_of device contents is_faulted seats s (notices ++ noted result) new after)
-      × (offered link' ≡ offered link ++ flat_map handed_by (acts_of old.stage room remote result))
+      AreActs (node_of device contents is_faulted seats s notices old before) (acts_of (in_hand new.stage) room remote result)
+      (node_of device contents is_faulted seats s (notices ++ noted result) new after)
+      × (offered link' ++ in_hand new.stage ≡ (offered link ++ in_hand old.stage) ++ flat_map handed_by (acts_of (in_hand new.stage) room remote result))
 
   abbrev pub TurnsAreActs : Type 0
   TurnsAreActs =

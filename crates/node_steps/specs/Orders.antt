@@ -7,6 +7,7 @@ use Rattle.model.specs.Group.{Contents}
 use Rattle.wbl_engine.specs.declared.freeing.Freed.{Freed as Places}
 use Rattle.pipes.specs.Waiting.{Waiting}
 use Rattle.redis_core.specs.Sequencing.{Sequencing}
+use Rattle.group_commit.specs.Committing.{in_hand}
 use Rattle.group_commit.specs.Due.{due_now}
 use Rattle.group_commit.specs.Working.{Takes}
 use Rattle.group_commit.specs.declared.committer.Committer.{Committer}
@@ -49,4 +50,4 @@ module _ {E O : Type 0} (device : E → State) (contents : E → Contents) (is_f
   TurnsAreBacks =
       (seats : List (Option ℕ)) (s : Sequencing) (notices : List Places) (room : Bool) (remote : ℕ) (old : Committer E) (before : Waiting Work) (link : O) (came : Done) (new : Committer E) (after : Waiting Work) (link' : O)
       → Takes device contents is_faulted offered known_room (due_now contents old before room remote) room remote old before link (Ok came) new after link'
-      → AreBacks (node_of device contents is_faulted seats s notices old before) (acts_of old.stage room remote (Ok came)) (node_of device contents is_faulted seats s (notices ++ notices_of came) new after)
+      → AreBacks (node_of device contents is_faulted seats s notices old before) (acts_of (in_hand new.stage) room remote (Ok came)) (node_of device contents is_faulted seats s (notices ++ notices_of came) new after)

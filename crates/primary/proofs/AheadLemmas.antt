@@ -28,7 +28,8 @@ use Rattle.wbl_engine.proofs.ApartLemmas.{AreVersionsApart, IsFresh, parts_apart
 use Rattle.wbl_engine.proofs.InsideLemmas.{inside-from_keeps}
 use Rattle.wbl_engine.proofs.WithoutLemmas.{AllEnded, versions_without}
 use Rattle.redis_core.specs.Sequencing.{Expects, IsAheadOf, Sequencing, contents_ahead, puts_of_parts}
-use Rattle.group_commit.specs.Group.{AreGroups, after_groups}
+use Rattle.wbl_engine.specs.CommittingAll.{AreGroups}
+use Rattle.group_commit.specs.Group.{after_groups}
 use Rattle.primary.specs.Leading.{AreLaid, LiesInside}
 use Rattle.group_commit.proofs.FreedLemmas.{free_without, unused_without, AllEnded-listed, AllEnded-parts, AreEnded-after_group, AreParts-without, NonePut, NonePut-unused, parts-without}
 

@@ -13,7 +13,8 @@ use Rattle.placing.proofs.BackLemmas.{listed-append}
 use Rattle.wbl_engine.specs.declared.freeing.Freed.{Freed}
 use Rattle.wbl_engine.specs.Freeing.{Clears}
 use Rattle.redis_core.specs.Sequencing.{Expects, IsAheadOf, Sequencing, TakesBack}
-use Rattle.group_commit.specs.Group.{AreGroups, AreWork, after_groups, after_work, groups_of, lists_of}
+use Rattle.wbl_engine.specs.CommittingAll.{AreGroups}
+use Rattle.group_commit.specs.Group.{AreWork, after_groups, after_work, groups_of, lists_of}
 use Rattle.group_commit.specs.Working.{entries_of_lists}
 use Rattle.group_commit.proofs.FreedLemmas.{AllEnded-listed, AreEnded-after_groups, AreEnded-apart, AreEnded-first, AreEnded-freed, AreEnded-moved, AreEnded-without, IsConsistent-after_groups, IsGroup-freed, after_group-without, after_groups-freed, AreEnded-after_group}
 use Rattle.group_commit.proofs.WorkLemmas.{AreGroups-of-work}

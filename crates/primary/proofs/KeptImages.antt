@@ -1,6 +1,6 @@
 -- What a crash leaves of the past that a primary keeps, and what it keeps of it once it is opened again.
 use mathlib.Core.Path.{fun_ext}
-use Rattle.std.proofs.Common.{◌≡◌, ℕ, IsTrue, ◌<◌, ◌≤◌, Bool, true, false, List, [], ◌++◌, Result, inl, inr, refl, sym, ap, ap₂, subst, ◌∙◌, arith, le_refl}
+use Rattle.std.proofs.Common.{◌≡◌, ℕ, IsTrue, ◌<◌, ◌≤◌, Bool, true, false, List, [], ◌++◌, take, Result, inl, inr, refl, sym, ap, ap₂, subst, ◌∙◌, arith, le_refl}
 use Rattle.std.proofs.lemmas.Bool.{cases_lt, cond-true, le-ltb, lt-ltb, cond-false}
 use Rattle.kv_types.specs.declared.refusal.Refusal.{Refusal}
 use Rattle.kv_types.specs.Keyspace.{Keyspace}
@@ -15,16 +15,16 @@ use Rattle.model.specs.declared.record.Role.{Role}
 use Rattle.model.specs.declared.work.FreeList.{FreeList}
 use Rattle.model.specs.declared.work.Work.{Work}
 use Rattle.std.proofs.Math.Nat.{le-max_left, le-max_right}
-use Rattle.model.specs.Floor.{floor_raised, floored}
-use Rattle.model.specs.Group.{Contents, IsConsistent, Versions, after_group, is_ended_version, without, entries_of}
+use Rattle.model.specs.Floor.{floor_raised}
+use Rattle.model.specs.Group.{Contents, IsConsistent, Versions, is_ended_version, without, entries_of}
 use Rattle.model.specs.Image.{HasRecord, Holds, Image, IsMapOf, entries_of_lines, version_at}
-use Rattle.model.proofs.GroupsLemmas.{IsConsistent-after_group}
 use Rattle.model.proofs.MapLemmas.{IsMapOf-same, IsMapOf-unique}
 use Rattle.model.proofs.RecordLemmas.{HasRecord-unique}
 use Rattle.model.proofs.StandingLemmas.{Holds-versions}
 use Rattle.mv_keyspace.specs.Table.{records}
 use Rattle.mv_keyspace.proofs.PartTables.{map-from_table}
 use Rattle.wbl_engine.specs.declared.freeing.Freed.{Freed as Places}
+use Rattle.wbl_engine.specs.CommittingAll.{KeepsSome, after_commits}
 use Rattle.wbl_engine.specs.Contents.{Keeps}
 use Rattle.wbl_engine.specs.Freeing.{KeepsFreed, KeepsWithoutSome, cleared_contents}
 use Rattle.wbl_engine.specs.Lawful.{IsUndamaged}
@@ -34,24 +34,27 @@ use Rattle.wbl_engine.proofs.RoomLemmas.{room_cases, room_layout}
 use Rattle.wbl_engine.proofs.WithoutLemmas.{IsMapOf-contents_without, consistent_without}
 use Rattle.redis_core.specs.Sequencing.{Sequencing}
 use Rattle.group_commit.specs.Due.{due_now, has_group}
-use Rattle.group_commit.specs.Working.{FreesReached, Takes, TakesGroup}
+use Rattle.group_commit.specs.Working.{FreesReached, Takes, TakesGroups}
 use Rattle.group_commit.specs.declared.committer.Committer.{Committer}
 use Rattle.group_commit.specs.declared.due.Due.{Due}
 use Rattle.group_commit.specs.declared.due.Due.TheVariants as due
 use Rattle.group_commit.specs.declared.stage.Done.{Done}
 use Rattle.group_commit.proofs.DueLemmas.{free-now}
 use Rattle.group_commit.proofs.FreedLemmas.{AllEnded-listed}
+use Rattle.group_commit.proofs.TurnLemmas.{hands-beside}
 use Rattle.pipes.specs.Waiting.{Waiting}
 use Rattle.standby_stream.specs.declared.opening.Opening.{Opening}
 use Rattle.standby_stream.specs.Delta.{LeadsTo, Recalls}
 use Rattle.primary.specs.Recalling.{AgreeUpTo, AreKeyspaces, DeltaLeads, Follows, ImageRecalls, KeepsPast, Past, RecallsEach, versions_under}
 use Rattle.primary.specs.Resuming.{IsOver}
 use Rattle.primary.specs.Standing.{StandsOver}
-use Rattle.primary.proofs.KeptTurns.{committed-keeps, keeps-same, raised-remembers, reached-ended}
+use Rattle.primary.proofs.CommittedLemmas.{each-some, led-each}
+use Rattle.primary.proofs.KeptGroups.{keeps-each}
+use Rattle.primary.proofs.KeptTurns.{keeps-same, raised-remembers, reached-ended}
 use Rattle.primary.proofs.NumberedLemmas.{consistent_renumbered}
 use Rattle.primary.proofs.RecallLemmas.{recalls-each, recalls-without, remembers-opened}
 use Rattle.primary.proofs.RecallParts.{recalls-more}
-use Rattle.primary.proofs.TurnedLemmas.{group-is}
+use Rattle.primary.proofs.TurnedLemmas.{led}
 
 -- ---- a crash
 
@@ -109,17 +112,15 @@ module _ {E : Type 0} (device : E → State) (contents : E → Contents) (is_fau
         subst (λ (e : E). LeavesOnly (device old.engine) (device e) (ImageRecalls past)) (sym same)
         (none_leaves (device old.engine) (ImageRecalls past) (λ image is. old-recalls image (over.durable image is)))
 
-    committed : TakesGroup device contents is_faulted remote old before result new after → Left
-    committed took =
-        let made = after_group (floored remote c) took.group in
-        let kept = committed-keeps device contents is_faulted past s notices old new before after result remote took over keeps in
-        let consistent = consistent_renumbered (after_group c took.group).current.number made.current.floor (after_group c took.group)
-        (IsConsistent-after_group c took.group over.consistent (group-is device contents is_faulted old new before after result remote took s notices over)) in
-        LeavesOnly-weaken (ImageRecalls past)
-        (λ image either. elim either [
-          | inl was ↦ old-recalls image was
-          | inr is ↦ image-recalls past made after.items (old.aside.items ++ took.lists) s image consistent kept is
-        ]) (took.commits.moments sound)
+    committed : TakesGroups device contents is_faulted (known_room link') remote old before result new after → Left
+    committed took = LeavesOnly-weaken (ImageRecalls past) some (took.commits.moments sound)
+      where
+        some : (image : Image) → KeepsSome remote c took.groups image → ImageRecalls past image
+        some image (n, few, held) =
+            let (lists, left, taken) = each-some before.items after.items took.lists took.groups n took.taken in
+            image-recalls past (after_commits remote c (take n took.groups)) left (old.aside.items ++ lists) s image
+            (led-each remote c before.items left old.aside.items lists (take n took.groups) s notices taken (led device contents is_faulted old before s notices over)).consistent
+            (keeps-each remote c before.items left old.aside.items lists (take n took.groups) s notices past taken (led device contents is_faulted old before s notices over) keeps) held
 
     freed : (has_room ≡ true → has_group before.items ≡ false) → FreesReached device contents is_faulted has_room remote old before result new after → Left
     freed none it = LeavesOnly-weaken (ImageRecalls past) either (it.frees.moments sound)
@@ -159,10 +160,7 @@ module _ {E : Type 0} (device : E → State) (contents : E → Contents) (is_fau
               (keeps-same c.current.floor past c (cleared_contents c) before.items old.aside.items s refl refl refl (λ i. refl) keeps) is
         ]) (clears.moments sound)
     leaves-by due.Raise is (same, queue, raises) = still (ap (λ (one : Committer E). one.engine) raises.now)
-    leaves-by due.Hand is (queue, hands) = elim hands.came [
-      | inl handed ↦ still (ap (λ (one : Committer E). one.engine) handed.1)
-      | inr idle ↦ still (ap (λ (one : Committer E). one.engine) idle.1)
-    ]
+    leaves-by due.Hand is (queue, hands) = still (hands-beside device contents is_faulted offered known_room old new link link' result hands).engine
     leaves-by due.Nothing is (none, queue, answer, same) = still (ap (λ (one : Committer E). one.engine) same)
 
     pub turn-leaves : Took now → Left

@@ -19,7 +19,8 @@ use Rattle.redis_core.specs.declared.turn.Turn.{Turn}
 use Rattle.redis_core.specs.declared.turn.Turn.TheVariants as turn
 use Rattle.redis_core.specs.Sequencing.{MovesSeat, Sequencing, state_of}
 use Rattle.redis_core.specs.Turn.{Answers, Moves, OnServed, OnUnserved, call_of}
-use Rattle.group_commit.specs.Group.{AreGroups, after_work, groups_of, lists_of}
+use Rattle.wbl_engine.specs.CommittingAll.{AreGroups}
+use Rattle.group_commit.specs.Group.{after_work, groups_of, lists_of}
 use Rattle.group_commit.specs.Working.{entries_of_lists}
 use Rattle.group_commit.proofs.WorkLemmas.{AreGroups-of-work, lists_of-append}
 use Rattle.pipes.specs.Waiting.{Waiting}
@@ -29,7 +30,7 @@ use Rattle.primary.specs.Recalling.{AgreeUpTo, Follows, KeepsPast, LeadAlong, Pa
 use Rattle.primary.proofs.LeadsLemmas.{Leads-group}
 use Rattle.primary.proofs.RecallGroups.{along-more, last-along, remembers-grouped, rises-groups}
 use Rattle.primary.proofs.RecallLemmas.{remembers-later, remembers-listed, remembers-on}
-use Rattle.primary.proofs.TurnedLemmas.{rises_within}
+use Rattle.primary.proofs.CommittedLemmas.{rises_within}
 
 -- ---- the standby goes on
 

@@ -1,5 +1,5 @@
 -- What of its past a primary keeps over a turn of the committer.
-use Rattle.std.proofs.Common.{◌≡◌, ℕ, ◌≤◌, Bool, true, false, List, [], ◌∷◌, ◌++◌, Result, Ok, Err, IfOk, IsErrOf, refl, sym, ap, subst, ◌∙◌, inl, inr, max, arith}
+use Rattle.std.proofs.Common.{◌≡◌, ℕ, ◌≤◌, Bool, true, false, List, [], ◌∷◌, Result, Ok, Err, IfOk, IsErrOf, refl, sym, ap, subst, ◌∙◌, inl, inr}
 use Rattle.pmem.specs.Device.{State}
 use Rattle.kv_types.specs.declared.refusal.Refusal.{Refusal}
 use Rattle.kv_types.specs.declared.refusal.Refusal.TheVariants.{Memory}
@@ -8,16 +8,16 @@ use Rattle.model.specs.declared.record.Record.{Record}
 use Rattle.model.specs.declared.work.FreeList.{FreeList}
 use Rattle.model.specs.declared.work.Work.{Work}
 use Rattle.std.proofs.Math.Nat.{le-max_left, le-max_right}
-use Rattle.model.specs.Floor.{floor_raised, floored, raised_record}
-use Rattle.model.specs.Group.{AreEnded, Contents, after_free, after_group, is_listed, last_position, entries_of}
-use Rattle.model.specs.Image.{IsMapOf}
+use Rattle.model.specs.Floor.{floor_raised, raised_record}
+use Rattle.model.specs.Group.{AreEnded, Contents, after_free, is_listed, entries_of}
 use Rattle.model.proofs.DirectoryLemmas.{entries_same}
 use Rattle.model.proofs.MapLemmas.{IsMapOf-same}
 use Rattle.wbl_engine.specs.declared.freeing.Freed.{Freed as Places}
+use Rattle.wbl_engine.specs.CommittingAll.{after_commits}
 use Rattle.wbl_engine.proofs.WithoutLemmas.{IsMapOf-contents_without}
 use Rattle.redis_core.specs.Sequencing.{Sequencing}
 use Rattle.group_commit.specs.Due.{due_now, has_group, left_by, reached_by}
-use Rattle.group_commit.specs.Working.{ClearsGap, FreesReached, Takes, TakesGroup, entries_of_lists}
+use Rattle.group_commit.specs.Working.{ClearsGap, FreesReached, Takes, TakesGroups, entries_of_lists}
 use Rattle.group_commit.specs.declared.committer.Committer.{Committer}
 use Rattle.group_commit.specs.declared.due.Due.{Due}
 use Rattle.group_commit.specs.declared.due.Due.TheVariants as due
@@ -26,15 +26,14 @@ use Rattle.group_commit.specs.declared.stage.Done.TheVariants as done
 use Rattle.group_commit.proofs.DueLemmas.{clear-now, free-now, no-groups}
 use Rattle.group_commit.proofs.FreedLemmas.{AllEnded-listed, AreEnded-first}
 use Rattle.group_commit.proofs.GroupsLemmas.{Same-is}
+use Rattle.group_commit.proofs.TurnLemmas.{hands-beside}
 use Rattle.pipes.specs.Waiting.{Waiting}
 use Rattle.primary.specs.Leading.{Leads}
 use Rattle.primary.specs.Recalling.{KeepsPast, Past, Remembers}
 use Rattle.primary.specs.Standing.{StandsOver}
-use Rattle.primary.proofs.KeptLemmas.{keeps-raised}
-use Rattle.primary.proofs.NumberedLemmas.{renumbered}
+use Rattle.primary.proofs.KeptGroups.{keeps-each, keeps-renumbered}
 use Rattle.primary.proofs.RecallLemmas.{remembers-aside, remembers-freed, remembers-on, remembers-same}
-use Rattle.primary.proofs.RecallParts.{map-committed, remembers-committed}
-use Rattle.primary.proofs.TurnedLemmas.{Leads-reached, group-is, ok_not_err}
+use Rattle.primary.proofs.TurnedLemmas.{Leads-reached, led, ok_not_err}
 
 -- what is reached stands aside
 pub remembers-reached : (has_room : Bool) (low position : ℕ) (past : Past) (contents : Contents) (items : List Work) (aside : List FreeList) (s : Sequencing) → (has_room ≡ true → has_group items ≡ false)
@@ -54,12 +53,6 @@ keeps-same low past contents new items aside s at layout lines versions keeps =
       remembers = subst (λ p. Remembers low p past new items aside s) (sym at) same;
     }
 
--- under a record of another number and with another floor
-keeps-renumbered : (low number floor : ℕ) (past : Past) (contents : Contents) (items : List Work) (aside : List FreeList) (s : Sequencing) → KeepsPast low past contents items aside s
-    → KeepsPast low past (renumbered number floor contents) items aside s
-keeps-renumbered low number floor past contents items aside s keeps =
-    record { now = keeps.now; follows = keeps.follows; remembers = record { earlier = keeps.remembers.earlier; groups = keeps.remembers.groups } }
-
 module _ {E : Type 0} (device : E → State) (contents : E → Contents) (is_faulted : E → Bool) (past : Past) (s : Sequencing) (notices : List Places) where
   abbrev Stood : Committer E → Waiting Work → Type 0
   Stood c waiting = StandsOver (device c.engine) (contents c.engine) waiting.items c.aside.items s notices
@@ -70,47 +63,16 @@ module _ {E : Type 0} (device : E → State) (contents : E → Contents) (is_fau
   unmoved : (old new : Committer E) (before after : Waiting Work) → new.engine ≡ old.engine → new.aside.items ≡ old.aside.items → after ≡ before → Kept old before → Kept new after
   unmoved old new before after engine aside queue keeps = rw (queue, aside, engine) keeps
 
-  -- ---- a group has committed
+  -- ---- groups have committed
 
-  -- what an engine then contains
-  made-keeps : (old new : Committer E) (before after : Waiting Work) (result : Result Done Refusal) (remote : ℕ) (took : TakesGroup device contents is_faulted remote old before result new after) → Stood old before
-      → Kept old before → KeepsPast (contents old.engine).current.floor past (after_group (contents old.engine) took.group) after.items (old.aside.items ++ took.lists) s
-  made-keeps old new before after result remote took over keeps =
-      let c = contents old.engine in
-      let low = c.current.floor in
-      let group = took.group in
-      let parts = group.parts.items in
-      let lawful = group-is device contents is_faulted old new before after result remote took s notices over in
-      let remembers = subst (λ (xs : List Work). Remembers low c.current.position past c xs old.aside.items s) took.taken keeps.remembers in
-      let ends : last_position group.before parts ≡ last_position c.current.position parts = ap (λ p. last_position p parts) lawful.before in
-      let map_is = map-committed low c.current.position past c took.lists group after.items old.aside.items s refl over.consistent keeps.now lawful remembers in
-      let remembered = remembers-committed low c.current.position past c took.lists group after.items old.aside.items s refl over.consistent keeps.now lawful remembers in
-      record {
-        now = subst (λ p. IsMapOf (after_group c group).versions (entries_of c) (past p)) ends map_is;
-        follows = keeps.follows;
-        remembers = subst (λ p. Remembers low p past (after_group c group) after.items (old.aside.items ++ took.lists) s) ends remembered;
-      }
-
-  -- the floor is no lower than the remote mark then
-  pub committed-keeps : (old new : Committer E) (before after : Waiting Work) (result : Result Done Refusal) (remote : ℕ) (took : TakesGroup device contents is_faulted remote old before result new after)
-      → Stood old before → Kept old before
-      → KeepsPast (max (contents old.engine).current.floor remote) past (after_group (floored remote (contents old.engine)) took.group) after.items (old.aside.items ++ took.lists) s
-  committed-keeps old new before after result remote took over keeps =
-      let c = contents old.engine in
-      let made = after_group c took.group in
-      let floor = max c.current.floor remote in
-      keeps-renumbered floor made.current.number floor past made after.items (old.aside.items ++ took.lists) s
-      (keeps-raised c.current.floor floor past made after.items (old.aside.items ++ took.lists) s (le-max_left c.current.floor remote)
-      (made-keeps old new before after result remote took over keeps))
-
-  group-keeps : (old new : Committer E) (before after : Waiting Work) (came : Done) (remote : ℕ) → TakesGroup device contents is_faulted remote old before (Ok came) new after → Stood old before → Kept old before
-      → Kept new after
-  group-keeps old new before after came remote took over keeps =
-      let made = after_group (floored remote (contents old.engine)) took.group in
-      let is = Same-is made (contents new.engine) took.commits.moved in
-      subst (λ (c : Contents). KeepsPast c.current.floor past c after.items new.aside.items s) (sym is)
+  group-keeps : (old new : Committer E) (before after : Waiting Work) (came : Done) (room remote : ℕ) → TakesGroups device contents is_faulted room remote old before (Ok came) new after → Stood old before
+      → Kept old before → Kept new after
+  group-keeps old new before after came room remote took over keeps =
+      let made = after_commits remote (contents old.engine) took.groups in
+      subst (λ (c : Contents). KeepsPast c.current.floor past c after.items new.aside.items s) (sym (Same-is made (contents new.engine) took.commits.moved))
       (subst (λ (xs : List FreeList). KeepsPast made.current.floor past made after.items xs s) (sym took.set_aside)
-      (committed-keeps old new before after (Ok came) remote took over keeps))
+      (keeps-each remote (contents old.engine) before.items after.items old.aside.items took.lists took.groups s notices past took.taken
+      (led device contents is_faulted old before s notices over) keeps))
 
   -- ---- a list was freed
 
@@ -180,16 +142,15 @@ module _ {E : Type 0} (device : E → State) (contents : E → Contents) (is_fau
     now = due_now contents old before has_room remote
 
     keeps-by : (step : Due) (came : Done) → now ≡ step → Took step (Ok came) → Kept new after
-    keeps-by due.Commit came is (none, inl took) = group-keeps old new before after came remote took over keeps
+    keeps-by due.Commit came is (none, inl took) = group-keeps old new before after came (known_room link') remote took over keeps
     keeps-by due.Commit came is (none, inr lacks) = absurd (ok_not_err came lacks.answer)
     keeps-by due.Free came is (none, inl frees) = freed-keeps old new before after has_room remote came (free-now contents old before has_room remote is).none frees over keeps
     keeps-by due.Free came is (none, inr lacks) = absurd (ok_not_err came lacks.answer)
     keeps-by due.Clear came is (none, queue, clears) = cleared-keeps old new before after came (clear-now contents old before has_room remote is).no_aside queue clears keeps
     keeps-by due.Raise came is (same, queue, raises) = rw (queue, raises.now) keeps
-    keeps-by due.Hand came is (queue, hands) = elim hands.came [
-      | inl handed ↦ rw (queue, handed.1) keeps
-      | inr idle ↦ rw (queue, idle.1) keeps
-    ]
+    keeps-by due.Hand came is (queue, hands) =
+        let beside = hands-beside device contents is_faulted offered known_room old new link link' (Ok came) hands in
+        unmoved old new before after beside.engine beside.aside queue keeps
     keeps-by due.Nothing came is (none, queue, answer, same) = rw (queue, same) keeps
 
     pub turn-keeps : (result : Result Done Refusal) → Took now result → IfOk result (λ came. Kept new after)
@@ -208,7 +169,9 @@ module _ {E : Type 0} (device : E → State) (contents : E → Contents) (is_fau
     refused-by due.Clear is (none, queue, clears) =
         unmoved old new before after (clears.memory refl) (clears.aside ∙ sym (clear-now contents old before has_room remote is).no_aside) queue keeps
     refused-by due.Raise is (same, queue, raises) = absurd (ok_not_err done.Raised (sym raises.answer))
-    refused-by due.Hand is (queue, hands) = absurd (elim hands.came [ inl handed ↦ ok_not_err done.Handed (sym handed.0) | inr idle ↦ ok_not_err done.Idle (sym idle.0) ])
+    refused-by due.Hand is (queue, hands) =
+        let beside = hands-beside device contents is_faulted offered known_room old new link link' (Err Memory) hands in
+        unmoved old new before after beside.engine beside.aside queue keeps
     refused-by due.Nothing is (none, queue, answer, same) = absurd (ok_not_err done.Idle (sym answer))
 
     pub refused-keeps : (result : Result Done Refusal) → Took now result → IsErrOf result Memory → Kept new after

@@ -5,6 +5,7 @@ pub mod NumberedLemmas
 pub mod OpenedLemmas
 pub mod TurnedLemmas
 pub mod ClosedLemmas
+pub mod CommittedLemmas
 pub mod SettledLemmas
 pub mod Restarted
 pub mod RecallParts
@@ -12,6 +13,7 @@ pub mod RecallGroups
 pub mod RecallLemmas
 pub mod KeptLemmas
 pub mod KeptTurns
+pub mod KeptGroups
 pub mod KeptImages
 pub mod FittingLemmas
 pub mod SoundTurns

@@ -60,7 +60,7 @@ raised_number floor r below fits =
       | inl rises ↦
           let number = cond-true (nat_lt r.floor floor) (r.number + 1) r.number rises in
           let under : r.number + 1 < COUNTER_LIMIT =
-          elim (cases_lt (r.number + 1) COUNTER_LIMIT) [ inl lt ↦ lt | inr reached ↦ absurd (fits (ltb-true r.floor floor rises, reached)) ] in
+          elim (cases_lt (r.number + 1) COUNTER_LIMIT) [ inl lt ↦ lt | inr reached ↦ absurd (fits (ltb-true r.floor floor rises, inl reached)) ] in
           (omega (arith, number), omega (arith, number, under))
       | inr stays ↦
           let number = cond-false (nat_lt r.floor floor) (r.number + 1) r.number stays in

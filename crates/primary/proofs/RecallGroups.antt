@@ -15,13 +15,14 @@ use Rattle.placing.proofs.BackLemmas.{listed-append}
 use Rattle.placing.proofs.TakenLemmas.{All-append, All-map}
 use Rattle.redis_core.specs.Sequencing.{HandsOut, Sequencing, ended_by_parts, newest_end}
 use Rattle.standby_stream.specs.Delta.{Recalls}
-use Rattle.group_commit.specs.Group.{AreGroups, after_groups, groups_of, lists_of}
+use Rattle.wbl_engine.specs.CommittingAll.{AreGroups}
+use Rattle.group_commit.specs.Group.{after_groups, groups_of, lists_of}
 use Rattle.group_commit.specs.Working.{entries_of_lists}
 use Rattle.group_commit.proofs.FreedLemmas.{AreEnded-apart}
 use Rattle.group_commit.proofs.WorkLemmas.{groups_of-append, lists_of-append}
 use Rattle.primary.specs.Recalling.{AgreeUpTo, HoldsEnded, IsHeld, IsRecalled, LeadAlong, Past, Remembers}
 use Rattle.primary.proofs.RecallParts.{recalls-more}
-use Rattle.primary.proofs.TurnedLemmas.{rises_within}
+use Rattle.primary.proofs.CommittedLemmas.{rises_within}
 
 -- ---- parts along the past
 

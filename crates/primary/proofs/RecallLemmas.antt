@@ -16,7 +16,8 @@ use Rattle.model.specs.Group.{AreEnded, Contents, Versions, after_free, is_ended
 use Rattle.model.specs.Image.{IsLive}
 use Rattle.wbl_engine.proofs.WithoutLemmas.{AllEnded, was_there}
 use Rattle.redis_core.specs.Sequencing.{HandsList, Sequencing}
-use Rattle.group_commit.specs.Group.{AreGroups, after_groups, groups_of, lists_of}
+use Rattle.wbl_engine.specs.CommittingAll.{AreGroups}
+use Rattle.group_commit.specs.Group.{after_groups, groups_of, lists_of}
 use Rattle.group_commit.proofs.FreedLemmas.{AllEnded-listed}
 use Rattle.group_commit.proofs.WorkLemmas.{groups_of-append, lists_of-append}
 use Rattle.standby_stream.specs.Delta.{IsGone, Recalls}

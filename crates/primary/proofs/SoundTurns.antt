@@ -13,6 +13,7 @@ use Rattle.group_commit.specs.declared.due.Due.{Due}
 use Rattle.group_commit.specs.declared.due.Due.TheVariants as due
 use Rattle.group_commit.specs.declared.stage.Done.{Done}
 use Rattle.group_commit.specs.declared.stage.Done.TheVariants as done
+use Rattle.group_commit.proofs.TurnLemmas.{hands-beside}
 use Rattle.pipes.specs.Waiting.{Waiting}
 use Rattle.primary.proofs.TurnedLemmas.{ok_not_err}
 
@@ -31,10 +32,7 @@ module _ {E : Type 0} (device : E → State) (contents : E → Contents) (is_fau
   sound-by due.Free came (none, inr lacks) sound = absurd (ok_not_err came lacks.answer)
   sound-by due.Clear came (none, queue, clears) sound = clears.sound.0
   sound-by due.Raise came (same, queue, raises) sound = ap (λ (c : Committer E). is_faulted c.engine) raises.now ∙ sound
-  sound-by due.Hand came (queue, hands) sound = elim hands.came [
-    | inl handed ↦ ap (λ (c : Committer E). is_faulted c.engine) handed.1 ∙ sound
-    | inr idle ↦ ap (λ (c : Committer E). is_faulted c.engine) idle.1 ∙ sound
-  ]
+  sound-by due.Hand came (queue, hands) sound = ap is_faulted (hands-beside device contents is_faulted offered known_room old new link link' (Ok came) hands).engine ∙ sound
   sound-by due.Nothing came (none, queue, answer, same) sound = ap (λ (c : Committer E). is_faulted c.engine) same ∙ sound
 
   pub turn-sound : (result : Result Done Refusal) → Took now result → OnOk result (is_faulted old.engine ≡ false → is_faulted new.engine ≡ false)
@@ -48,7 +46,7 @@ module _ {E : Type 0} (device : E → State) (contents : E → Contents) (is_fau
   unmoved-by due.Free (none, inr lacks) = lacks.engine
   unmoved-by due.Clear (none, queue, clears) = clears.memory refl
   unmoved-by due.Raise (same, queue, raises) = absurd (ok_not_err done.Raised (sym raises.answer))
-  unmoved-by due.Hand (queue, hands) = absurd (elim hands.came [ inl handed ↦ ok_not_err done.Handed (sym handed.0) | inr idle ↦ ok_not_err done.Idle (sym idle.0) ])
+  unmoved-by due.Hand (queue, hands) = (hands-beside device contents is_faulted offered known_room old new link link' (Err Memory) hands).engine
   unmoved-by due.Nothing (none, queue, answer, same) = absurd (ok_not_err done.Idle (sym answer))
 
   pub turn-unmoved : (result : Result Done Refusal) → Took now result → IsErrOf result Memory → new.engine ≡ old.engine

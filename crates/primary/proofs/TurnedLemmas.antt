@@ -1,25 +1,22 @@
 -- What a turn of the committer leaves of a primary.
-use Rattle.std.proofs.Common.{◌≡◌, ℕ, ◌≤◌, Bool, true, false, nat_lt, max, List, [], ◌∷◌, ◌++◌, length, Result, Ok, Err, IfOk, IsErrOf, refl, sym, ap, subst, ◌∙◌, inl, inr, append-nil, arith, le_refl}
+use Rattle.std.proofs.Common.{◌≡◌, ℕ, ◌≤◌, Bool, true, false, nat_lt, List, [], ◌∷◌, ◌++◌, length, Result, Ok, Err, IfOk, IsErrOf, refl, sym, ap, subst, ◌∙◌, inl, inr, append-nil, arith}
 use Rattle.pmem.specs.Device.{State}
 use Rattle.kv_types.specs.declared.place.EntryNo.{EntryNo}
 use Rattle.kv_types.specs.declared.refusal.Refusal.{Refusal}
 use Rattle.kv_types.specs.declared.refusal.Refusal.TheVariants.{Memory}
 use Rattle.model.specs.declared.group.Group.{Group}
-use Rattle.model.specs.declared.group.Part.{Part}
 use Rattle.model.specs.declared.record.Record.{Record}
 use Rattle.model.specs.declared.work.FreeList.{FreeList}
 use Rattle.model.specs.declared.work.Work.{Work}
-use Rattle.model.specs.declared.work.Work.TheVariants as work
-use Rattle.model.specs.Floor.{floor_raised, floored, raised_record}
-use Rattle.model.specs.Group.{AreParts, Contents, IsConsistent, IsGroup, Versions, after_free, after_group, is_listed, last_position, part_versions}
-use Rattle.model.proofs.GroupsLemmas.{IsConsistent-after_group}
+use Rattle.model.specs.Floor.{floor_raised, raised_record}
+use Rattle.model.specs.Group.{Contents, IsConsistent, after_free, is_listed}
 use Rattle.wbl_engine.specs.declared.freeing.Freed.{Freed as Places}
+use Rattle.wbl_engine.specs.CommittingAll.{after_commits}
 use Rattle.wbl_engine.specs.Freeing.{Clears}
 use Rattle.wbl_engine.proofs.WithoutLemmas.{consistent_cleared, consistent_without, was_there}
 use Rattle.redis_core.specs.Sequencing.{Sequencing}
 use Rattle.group_commit.specs.Due.{due_now, has_group, left_by, reached_by}
-use Rattle.group_commit.specs.Group.{AreWork}
-use Rattle.group_commit.specs.Working.{ClearsGap, FreesReached, TakesGroup, Takes}
+use Rattle.group_commit.specs.Working.{ClearsGap, FreesReached, TakesGroups, Takes}
 use Rattle.group_commit.specs.declared.committer.Committer.{Committer}
 use Rattle.group_commit.specs.declared.due.Due.{Due}
 use Rattle.group_commit.specs.declared.due.Due.TheVariants as due
@@ -27,20 +24,13 @@ use Rattle.group_commit.specs.declared.stage.Done.{Done}
 use Rattle.group_commit.specs.declared.stage.Done.TheVariants as done
 use Rattle.group_commit.proofs.DueLemmas.{ClearIsDue, clear-now, free-now, no-groups}
 use Rattle.group_commit.proofs.GroupsLemmas.{Same-is}
-use Rattle.group_commit.proofs.WorkLemmas.{AreWork-behind}
+use Rattle.group_commit.proofs.TurnLemmas.{hands-beside}
 use Rattle.pipes.specs.Waiting.{Waiting}
 use Rattle.primary.specs.Leading.{AreLaid, Leads}
 use Rattle.primary.specs.Standing.{StandsOver, notices_of, position_after}
-use Rattle.primary.proofs.AheadLemmas.{laid-group}
+use Rattle.primary.proofs.CommittedLemmas.{AreLed, led-each, rises-each}
 use Rattle.primary.proofs.FreedQueue.{Leads-aside, Leads-cleared, Leads-freed}
-use Rattle.primary.proofs.LeadsLemmas.{leads-after}
 use Rattle.primary.proofs.NumberedLemmas.{consistent_renumbered, laid_renumbered, leads_renumbered}
-
--- ---- the last part of a group is the newest
-
-pub rises_within : (before : ℕ) (versions : Versions) (parts : List Part) → AreParts before versions parts → before ≤ last_position before parts
-rises_within before versions [] are = le_refl before
-rises_within before versions (part ∷ parts) are = omega (arith, are.0, rises_within part.position (part_versions versions part) parts are.2)
 
 -- ---- versions that are left lie as they lay
 
@@ -87,33 +77,21 @@ module _ {E : Type 0} (device : E → State) (contents : E → Contents) (is_fau
       → Over old before s notices → Over new after s notices
   unmoved old new before after s notices engine aside queue over = rw (queue, aside, engine) over
 
-  -- ---- a group has committed
+  -- ---- groups have committed
 
-  pub group-is : (old new : Committer E) (before after : Waiting Work) (result : Result Done Refusal) (remote : ℕ) (took : TakesGroup device contents is_faulted remote old before result new after) (s : Sequencing) (notices : List Places)
-      → Over old before s notices → IsGroup (contents old.engine) took.group
-  group-is old new before after result remote took s notices over =
-      (AreWork-behind (contents old.engine) took.lists (work.Commit took.group ∷ after.items) (subst (AreWork (contents old.engine)) took.taken over.leads.work_is)).0
+  pub led : (c : Committer E) (waiting : Waiting Work) (s : Sequencing) (notices : List Places) → Over c waiting s notices → AreLed (contents c.engine) waiting.items c.aside.items s notices
+  led c waiting s notices over = record { leads = over.leads; consistent = over.consistent; laid = over.laid }
 
-  group-stands : (old new : Committer E) (before after : Waiting Work) (came : Done) (remote : ℕ) (s : Sequencing) (notices : List Places)
-      → TakesGroup device contents is_faulted remote old before (Ok came) new after
+  groups-stand : (old new : Committer E) (before after : Waiting Work) (came : Done) (room remote : ℕ) (s : Sequencing) (notices : List Places)
+      → TakesGroups device contents is_faulted room remote old before (Ok came) new after
       → Over old before s notices → Over new after s notices
-  group-stands old new before after came remote s notices took over =
-      let c = contents old.engine in
-      let commits = took.commits in
-      let leads = subst (λ (xs : List Work). Leads c xs old.aside.items s notices) took.taken over.leads in
-      let lawful = group-is old new before after (Ok came) remote took s notices over in
-      let made = after_group c took.group in
-      let floor = max c.current.floor remote in
-      let is = Same-is (after_group (floored remote c) took.group) (contents new.engine) commits.moved in
-      record {
-        leads = subst (λ (c : Contents). Leads c after.items new.aside.items s notices) (sym is)
-            (subst (λ (xs : List FreeList). Leads (after_group (floored remote c) took.group) after.items xs s notices) (sym took.set_aside)
-            (leads_renumbered made.current.number floor made after.items (old.aside.items ++ took.lists) s notices
-            (leads-after c took.lists took.group after.items old.aside.items s notices over.consistent leads)));
-        consistent = subst IsConsistent (sym is) (consistent_renumbered made.current.number floor made (IsConsistent-after_group c took.group over.consistent lawful));
-        laid = subst AreLaid (sym is) (laid_renumbered made.current.number floor made (laid-group c took.group over.laid lawful));
-        durable = commits.durable;
-      }
+  groups-stand old new before after came room remote s notices took over =
+      let made = after_commits remote (contents old.engine) took.groups in
+      let now : AreLed (contents new.engine) after.items new.aside.items s notices =
+      subst (λ (c : Contents). AreLed c after.items new.aside.items s notices) (sym (Same-is made (contents new.engine) took.commits.moved))
+      (subst (λ (xs : List FreeList). AreLed made after.items xs s notices) (sym took.set_aside)
+      (led-each remote (contents old.engine) before.items after.items old.aside.items took.lists took.groups s notices took.taken (led old before s notices over))) in
+      record { leads = now.leads; consistent = now.consistent; laid = now.laid; durable = took.commits.durable }
 
   -- ---- a list was freed
 
@@ -176,17 +154,20 @@ module _ {E : Type 0} (device : E → State) (contents : E → Contents) (is_fau
 
     told-by : (step : Due) (came : Done) → now ≡ step → Took step (Ok came) → (s : Sequencing) (notices : List Places) → Over old before s notices → Over new after s (notices ++ notices_of came)
     told-by due.Commit came is (none, inl took) s notices over = subst (λ (d : Done). Over new after s (notices ++ notices_of d)) (sym took.commits.answer)
-        (still new after s notices (done.Committed (contents new.engine).current.position) refl (group-stands old new before after came remote s notices took over))
+        (still new after s notices (done.Committed (contents new.engine).current.position) refl (groups-stand old new before after came (known_room link') remote s notices took over))
     told-by due.Commit came is (none, inr lacks) s notices over = absurd (ok_not_err came lacks.answer)
     told-by due.Free came is (none, inl frees) s notices over =
         freed-stands old new before after has_room remote came s notices (free-now contents old before has_room remote is).none frees over
     told-by due.Free came is (none, inr lacks) s notices over = absurd (ok_not_err came lacks.answer)
     told-by due.Clear came is (none, queue, clears) s notices over = cleared-stands old new before after came s notices (alone is).no_work (alone is).no_aside queue clears over
     told-by due.Raise came is (same, queue, raises) s notices over = rw (ok_is came done.Raised raises.answer) (still new after s notices done.Raised refl (rw (queue, raises.now) over))
-    told-by due.Hand came is (queue, hands) s notices over = elim hands.came [
-      | inl handed ↦ rw (ok_is came done.Handed handed.0) (still new after s notices done.Handed refl (rw (queue, handed.1) over))
-      | inr idle ↦ rw (ok_is came done.Idle idle.0) (still new after s notices done.Idle refl (rw (queue, idle.1) over))
-    ]
+    told-by due.Hand came is (queue, hands) s notices over =
+        let beside = hands-beside device contents is_faulted offered known_room old new link link' (Ok came) hands in
+        let stands = unmoved old new before after s notices beside.engine beside.aside queue over in
+        elim beside.answer [
+          | inl handed ↦ rw (ok_is came done.Handed handed) (still new after s notices done.Handed refl stands)
+          | inr idle ↦ rw (ok_is came done.Idle idle) (still new after s notices done.Idle refl stands)
+        ]
     told-by due.Nothing came is (none, queue, answer, same) s notices over = rw (ok_is came done.Idle answer) (still new after s notices done.Idle refl (rw (queue, same) over))
 
     pub told-for-all : (result : Result Done Refusal) → Took now result → IfOk result (λ came. (s : Sequencing) (notices : List Places) → Over old before s notices → Over new after s (notices ++ notices_of came))
@@ -207,7 +188,11 @@ module _ {E : Type 0} (device : E → State) (contents : E → Contents) (is_fau
     again-by due.Clear is (none, queue, clears) s notices over =
         (clears.memory refl, unmoved old new before after s notices (clears.memory refl) (clears.aside ∙ sym (alone is).no_aside) queue over)
     again-by due.Raise is (same, queue, raises) s notices over = absurd (ok_not_err done.Raised (sym raises.answer))
-    again-by due.Hand is (queue, hands) s notices over = absurd (elim hands.came [ inl handed ↦ ok_not_err done.Handed (sym handed.0) | inr idle ↦ ok_not_err done.Idle (sym idle.0) ])
+    again-by due.Hand is (queue, hands) s notices over =
+        absurd (elim (hands-beside device contents is_faulted offered known_room old new link link' (Err Memory) hands).answer [
+          | inl handed ↦ ok_not_err done.Handed (sym handed)
+          | inr idle ↦ ok_not_err done.Idle (sym idle)
+        ])
     again-by due.Nothing is (none, queue, answer, same) s notices over = absurd (ok_not_err done.Idle (sym answer))
 
     pub turn-again : (result : Result Done Refusal) → Took now result → IsErrOf result Memory → (s : Sequencing) (notices : List Places) → Over old before s notices → Over new after s notices
@@ -223,10 +208,13 @@ module _ {E : Type 0} (device : E → State) (contents : E → Contents) (is_fau
     position-by due.Free came (none, inr lacks) = absurd (ok_not_err came lacks.answer)
     position-by due.Clear came (none, queue, clears) = rw clears.answer.1 (ap (λ (r : Record). r.position) clears.answer.3.current)
     position-by due.Raise came (same, queue, raises) = rw (ok_is came done.Raised raises.answer) (ap (λ (c : Committer E). (contents c.engine).current.position) raises.now)
-    position-by due.Hand came (queue, hands) = elim hands.came [
-      | inl handed ↦ rw (ok_is came done.Handed handed.0) (ap (λ (c : Committer E). (contents c.engine).current.position) handed.1)
-      | inr idle ↦ rw (ok_is came done.Idle idle.0) (ap (λ (c : Committer E). (contents c.engine).current.position) idle.1)
-    ]
+    position-by due.Hand came (queue, hands) =
+        let beside = hands-beside device contents is_faulted offered known_room old new link link' (Ok came) hands in
+        let at = ap (λ (e : E). (contents e).current.position) beside.engine in
+        elim beside.answer [
+          | inl handed ↦ rw (ok_is came done.Handed handed) at
+          | inr idle ↦ rw (ok_is came done.Idle idle) at
+        ]
     position-by due.Nothing came (none, queue, answer, same) = rw (ok_is came done.Idle answer) (ap (λ (c : Committer E). (contents c.engine).current.position) same)
 
     pub turn-position : (result : Result Done Refusal) → Took now result → IfOk result (λ came. (contents new.engine).current.position ≡ position_after came (contents old.engine).current.position)
@@ -236,18 +224,16 @@ module _ {E : Type 0} (device : E → State) (contents : E → Contents) (is_fau
     -- it never falls
     rises-by : (step : Due) (came : Done) → Took step (Ok came) → (s : Sequencing) (notices : List Places) → Over old before s notices → (contents old.engine).current.position ≤ (contents new.engine).current.position
     rises-by due.Commit came (none, inl took) s notices over =
-        let lawful = group-is old new before after (Ok came) remote took s notices over in
         rw (ap (λ (r : Record). r.position) took.commits.moved.current)
-        (subst (λ (p : ℕ). p ≤ last_position p took.group.parts.items) lawful.before (rises_within took.group.before (contents old.engine).versions took.group.parts.items lawful.parts))
+        (rises-each remote (contents old.engine) before.items after.items old.aside.items took.lists took.groups s notices took.taken (led old before s notices over))
     rises-by due.Commit came (none, inr lacks) s notices over = absurd (ok_not_err came lacks.answer)
     rises-by due.Free came (none, inl it) s notices over = omega (arith, ap (λ (r : Record). r.position) it.frees.moved.current)
     rises-by due.Free came (none, inr lacks) s notices over = absurd (ok_not_err came lacks.answer)
     rises-by due.Clear came (none, queue, clears) s notices over = omega (arith, ap (λ (r : Record). r.position) clears.answer.3.current)
     rises-by due.Raise came (same, queue, raises) s notices over = omega (arith, ap (λ (c : Committer E). (contents c.engine).current.position) raises.now)
-    rises-by due.Hand came (queue, hands) s notices over = elim hands.came [
-      | inl handed ↦ omega (arith, ap (λ (c : Committer E). (contents c.engine).current.position) handed.1)
-      | inr idle ↦ omega (arith, ap (λ (c : Committer E). (contents c.engine).current.position) idle.1)
-    ]
+    rises-by due.Hand came (queue, hands) s notices over =
+        let beside = hands-beside device contents is_faulted offered known_room old new link link' (Ok came) hands in
+        omega (arith, ap (λ (e : E). (contents e).current.position) beside.engine)
     rises-by due.Nothing came (none, queue, answer, same) s notices over = omega (arith, ap (λ (c : Committer E). (contents c.engine).current.position) same)
 
     pub turn-rises : (result : Result Done Refusal) (s : Sequencing) (notices : List Places) → Took now result → Over old before s notices

@@ -5,11 +5,12 @@ ghost use Rattle.server.specs.Served.{IsServed};
 
 use crate::grammar::PROGRAM;
 use crate::nodes::run_node;
-use crate::options::{Task, options};
+use crate::options::options;
 use crate::serve::serve;
+use crate::tasks::Task;
 use images::{
-    DONE, Failure, Images, ServeError, add_journal, format, inspect, migrate, new_pair, promote,
-    settle, status, tell, tell_cause, tell_cause_of_giving, tell_cause_of_making,
+    DONE, Failure, Images, NewImage, ServeError, add_journal, format, inspect, migrate, new_pair,
+    promote, settle, status, tell, tell_cause, tell_cause_of_giving, tell_cause_of_making,
     tell_cause_of_reading,
 };
 use pmem::Pmem;
@@ -127,23 +128,19 @@ fn work<S: RandomSource, I: Images, R: Read, W: Write, E: Write>(
             image,
             lines,
             role,
+            epoch,
             has_journal,
             is_new,
         } => {
-            let pair = new_pair(rt, role)?;
-            let done = format(
-                alloc,
-                images,
-                image,
+            let new = NewImage {
                 lines,
                 role,
-                pair,
+                epoch,
+                pair: new_pair(rt, role)?,
                 has_journal,
-                is_new,
-                is_asked,
-                reader,
-                writer,
-                errors,
+            };
+            let done = format(
+                alloc, images, image, new, is_new, is_asked, reader, writer, errors,
             );
             let is_held = tell_cause_of_making(
                 alloc,

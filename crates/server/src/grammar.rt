@@ -1,6 +1,7 @@
 //! The subcommands of the command line, and the options of each.
 use clap::builder::{Arg, ArgAction, Command};
 use clap::{Error, value_parser};
+use model::COUNTER_LIMIT;
 use std::alloc::Global;
 use version::VERSION;
 
@@ -10,6 +11,11 @@ pub const PROGRAM: &str = "wbl-server";
 pub const PRIMARY: &str = "primary";
 
 pub const STANDBY: &str = "standby";
+
+pub const NEWCOMER: &str = "newcomer";
+
+/// The option that says which primary's a newcomer is.
+pub const EPOCH: &str = "epoch";
 
 /// The option by which the operator states that the old primary does nothing more.
 pub const STOPPED: &str = "old-primary-stopped";
@@ -41,7 +47,7 @@ pub const LISTEN: &str = "listen";
 pub const LINK: &str = "link";
 
 /// The roles that an image is formatted for.
-static ROLES: [&str; 2] = [PRIMARY, STANDBY];
+static ROLES: [&str; 3] = [PRIMARY, STANDBY, NEWCOMER];
 
 /// Without a journal, and with one.
 static JOURNALS: [&str; 2] = ["0", "1"];
@@ -76,6 +82,9 @@ fn format_command<'a>(alloc: Global) -> Result<Command<'a>, Error> {
     let role = option(alloc, "role", "ROLE", "Which node the image is for").value_parser(
         ROLES.as_slice(),
     );
+    let epoch = option(alloc, EPOCH, "E", "Which primary a newcomer is for")
+        .value_parser(value_parser!(u64).range(1..COUNTER_LIMIT as i64))
+        .required(false);
     let journal = option(
         alloc,
         JOURNAL,
@@ -94,6 +103,7 @@ fn format_command<'a>(alloc: Global) -> Result<Command<'a>, Error> {
         .arg(image(alloc))?
         .arg(lines)?
         .arg(role)?
+        .arg(epoch)?
         .arg(journal)?
         .arg(new)?;
     Ok(command)

@@ -16,6 +16,7 @@ mod serve;
 mod serving_clients;
 mod simulated;
 mod standing_by;
+mod tasks;
 
 use crate::command::command;
 use crate::options::not_text;

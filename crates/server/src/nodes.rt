@@ -1,9 +1,9 @@
 //! The subcommands that run a node: all that it tells goes by way of a thread of its own.
 ghost use Rattle.images.specs.Told.{IsStatus};
 
-use crate::options::Node;
 use crate::serving_clients::serve_clients;
 use crate::standing_by::stand_by;
+use crate::tasks::Node;
 use images::{DONE, Failure, Images, tell};
 use pmem::Pmem;
 use std::alloc::Global;

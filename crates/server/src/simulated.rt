@@ -5,7 +5,7 @@ ghost use Rattle.pmem.specs.Crash.{image_of};
 ghost use Rattle.pmem.specs.Sim.{state_of};
 
 use kv_types::Refusal;
-use model::MIN_LINES;
+use model::{FIRST_EPOCH, MIN_LINES};
 use pmem::{Crashing, SimPmem};
 use std::alloc::Global;
 use wbl_engine::{Durable, Role, WblEngine};
@@ -17,7 +17,7 @@ pub fn new_image(alloc: Global, role: Role) -> Result<SimPmem, Refusal>
     ensures settled { IfOk result (λ device. (word : ℕ) → Only ((state_of device).words word) (image_of (state_of device).words word)) }
 {
     let device = SimPmem::new(alloc, MIN_LINES)?;
-    match WblEngine::format(device, role) {
+    match WblEngine::format(device, role, FIRST_EPOCH) {
         Ok(engine) => Ok(crashed(engine.into_device())),
         Err((refusal, _device)) => Err(refusal),
     }

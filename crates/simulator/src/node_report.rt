@@ -78,6 +78,7 @@ fn write_position<W: Write>(out: &mut W, node: &str, image: &DeviceImage) -> io:
     let role = match contents.record.role {
         Role::Primary => "primary",
         Role::Standby => "standby",
+        Role::Newcomer => "newcomer",
     };
     let gaps = contents.record.gaps.len();
     writeln!(

@@ -30,9 +30,7 @@ use Rattle.placing.proofs.PartsLemmas.{IsGroup-alone}
 use Rattle.placing.proofs.EndedLemmas.{AreEnded-from_members}
 use Rattle.placing.proofs.MemberLemmas.{listed-from_member}
 use Rattle.wbl_engine.specs.Contents.{Exhausts, Keeps, Same}
-use Rattle.wbl_engine.specs.Relocating.{IsRelocation, MakesAgain, after_relocation}
-use Rattle.wbl_engine.proofs.ApartLemmas.{IsFresh, group_apart, part_apart}
-use Rattle.wbl_engine.proofs.RelocatingLemmas.{relocated_consistent}
+use Rattle.wbl_engine.proofs.ApartLemmas.{group_apart}
 use Rattle.wbl_engine.proofs.LawfulLemmas.{group_lawful}
 use Rattle.frames.specs.declared.frame.Frame.{Frame}
 use Rattle.standby.specs.Following.{Follows, HasTaken, IsUnmovedOrWhole, IsWhole, TakesEpoch, WouldExhaust}
@@ -156,43 +154,6 @@ module _ (contents : Contents) (table : Table) (room : Room) (follows : Follows 
         all = λ i was. listed_after i (sym (ap (λ (versions : Versions). is_ended_version (versions i)) versions_are) ∙ was);
       }
 
-  -- ---- the part as one that moves a version
-
-  pub IsRelocation-one : MakesAgain contents part → part.position ≤ contents.current.position → IsRelocation contents part
-  IsRelocation-one same position = record {
-    position = position;
-    same = same;
-    names = names;
-    placed = All-map (IsFree room) (IsPlaced (entries_of contents) contents.lines) (λ put. placed_of_free contents room put follows.left) puts free;
-    fitting = takes.fitting;
-    unused = All-map (IsFree room) (IsUnused contents.versions contents.is_free) (λ put. unused_of_free contents room put follows.left) puts free;
-    apart = apart;
-  }
-
-  fresh : AllByRecursion (IsFresh contents.versions) puts
-  fresh = All-map (IsFree room) (IsFresh contents.versions) (λ put is. (unused_of_free contents room put follows.left is).lines) puts free
-
-  pub Follows-relocated : IsRelocation contents part → Follows (after_relocation contents part) (place_all part.position table part.changes.items) left part.ended.items
-  Follows-relocated is =
-      let consistent = relocated_consistent follows.consistent is in
-      let was = left_after contents.current.epoch in
-      let out = out_after contents.current.epoch in
-      record {
-        consistent = consistent;
-        left = record {
-          entries = λ i free.
-              let before = was.entries i free in
-              (before.0, subst (λ (all : List Put). IsTrue (contents.is_free i && not (is_put_at i all))) (append-nil puts) before.1, before.2);
-          lines = was.lines;
-          apart = was.apart;
-        };
-        table_is = IsTable-changes part.position contents.versions table part.changes.items empty distinct follows.table_is;
-        apart = part_apart contents.versions part follows.apart fresh apart;
-        out = record { end_line = out.end_line; end_entry = out.end_entry; held = out.held };
-        listed = ended_after (after_relocation contents part) refl consistent;
-        all = λ i was_ended. listed_after i was_ended;
-      }
-
 -- ---- contents that say the same
 
 pub Follows-same : (old new : Contents) (table : Table) (room : Room) (ended : List EntryNo) → Same old new → Follows old table room ended → Follows new table room ended
@@ -222,7 +183,8 @@ module _ (contents : Contents) (table : Table) (frame : Frame) (part : Part) (sa
   not_exhausted fits (inl cd) = fits (inl (subst (λ (n : ℕ). COUNTER_LIMIT ≤ contents.current.cp + n + 1 + STAMP_WINDOW) (ap length one) cd))
   not_exhausted fits (inr (inl position)) = fits (inr (inl (subst (λ (n : ℕ). COUNTER_LIMIT ≤ n) position_after position)))
   not_exhausted fits (inr (inr (inl number))) = fits (inr (inr (inl number)))
-  not_exhausted fits (inr (inr (inr epoch))) = fits (inr (inr (inr (subst (λ (n : ℕ). (contents.current.epoch < n) × (COUNTER_LIMIT ≤ n)) own epoch))))
+  not_exhausted fits (inr (inr (inr (inl epoch)))) = fits (inr (inr (inr (inl (subst (λ (n : ℕ). (contents.current.epoch < n) × (COUNTER_LIMIT ≤ n)) own epoch)))))
+  not_exhausted fits (inr (inr (inr (inr newcomer)))) = fits (inr (inr (inr (inr newcomer))))
 
   module _ (room : Room) (ended : List EntryNo) (follows : Follows (after_group contents group) (place_all part.position table part.changes.items) room ended)
       (is : IsGroup contents group) (fits : ¬ WouldExhaust contents.current frame) where

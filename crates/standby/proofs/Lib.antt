@@ -11,6 +11,8 @@ pub mod Restarted
 pub mod RearrangedLemmas
 pub mod PlacesTaken
 pub mod MovedLemmas
+pub mod MadeAgain
+pub mod TurnedLemmas
 pub mod RoomLemmas
 pub mod ClearingLemmas
 pub mod MovingLemmas

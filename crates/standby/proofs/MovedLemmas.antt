@@ -1,34 +1,23 @@
--- A version that is moved: the place that it gets, the commit that is asked of the engine, and what the tables follow afterwards.
+-- A place that is claimed for a version and given back, and the position of a version.
 use Rattle.std.proofs.Common.{◌≡◌, ℕ, ◌+◌, ◌<◌, ◌≤◌, ◌||◌, ◌&&◌, inl, inr, Bool, true, false, not, cond, IsTrue, List, [], ◌∷◌, nat_eq, Option, Some, None, IfSome, refl, sym, ap, subst, ◌∙◌, arith, eq-eqb, eqb-true}
 use Rattle.std.proofs.lemmas.Bool.{and_parts, true≢false}
-use Rattle.std.specs.List.{flat_map}
-use Rattle.kv_types.specs.declared.record_id.RecordId.{RecordId}
 use Rattle.kv_types.specs.declared.place.Extent.{Extent}
 use Rattle.kv_types.specs.declared.place.EntryNo.{EntryNo}
-use Rattle.model.specs.declared.record.Record.{Record}
-use Rattle.model.specs.declared.group.Part.{Part}
 use Rattle.model.specs.declared.group.Put.{Put}
-use Rattle.model.specs.declared.group.PlacedChange.{PlacedChange}
-use Rattle.model.specs.declared.group.PlacedChange.TheVariants as placed
-use Rattle.model.specs.Group.{Contents, HasItsLines, IsConsistent, Versions, change_of, changes_versions, ended_by, ended_where_begun, part_versions, puts_of_part, put_of, version_of_put, entries_of}
-use Rattle.model.specs.Image.{Image, IsMapOf, Version, counts, entry_word, version_in}
+use Rattle.model.specs.Group.{Contents, HasItsLines, IsConsistent, Versions}
+use Rattle.model.specs.Image.{Image, Version, counts, entry_word, version_in}
 use Rattle.model.proofs.DirectoryLemmas.{in-directory}
-use Rattle.model.proofs.MapLemmas.{IsMapOf-unique}
 use Rattle.extent_heap.specs.Extents.{is_line_of}
 use Rattle.extent_heap.specs.Room.{GivesEntry, GivesExtent, IsOut, IsOutEntry, Room, is_free_entry, is_free_line}
 use Rattle.extent_heap.proofs.EntriesLemmas.{free_below}
 use Rattle.extent_heap.proofs.Rooms.{free_within}
 use Rattle.extent_heap.proofs.RunsLemmas.{line_bounds, line_within}
-use Rattle.mv_keyspace.specs.Table.{AreFresh, IsCellOf, IsTable, Table, records}
-use Rattle.mv_keyspace.proofs.PartTables.{fresh-from_table, map-from_table}
+use Rattle.mv_keyspace.specs.Table.{AreFresh, IsTable, Table}
+use Rattle.mv_keyspace.proofs.PartTables.{fresh-from_table}
 use Rattle.placing.proofs.TakenLemmas.{AreDistinct-from_apart}
-use Rattle.wbl_engine.specs.Contents.{Keeps, Same}
-use Rattle.wbl_engine.specs.Relocating.{ExhaustsRelocation, IsRelocation, MakesAgain, after_relocation}
-use Rattle.wbl_engine.proofs.RelocatingLemmas.{relocated_lawful, relocated_map}
-use Rattle.standby.specs.Following.{Follows, IsNearLimit, IsRearranged, Stood}
-use Rattle.standby.specs.Moving.{ClaimsPlace, IsAlike, IsMadeAgain}
-use Rattle.standby.proofs.EndedLemmas.{Same-is}
-use Rattle.standby.proofs.FollowingLemmas.{Follows-relocated, IsRelocation-one}
+use Rattle.wbl_engine.specs.Contents.{Keeps}
+use Rattle.standby.specs.Following.{Follows}
+use Rattle.standby.specs.Moving.{ClaimsPlace, IsAlike}
 use Rattle.standby.proofs.PlacesTaken.{AreTaken}
 use Rattle.std.proofs.lemmas.Option.{none-some}
 
@@ -171,118 +160,3 @@ position_below contents image consistent keeps i version begun =
     let within = in-directory contents consistent i (λ none. none-some version (sym none ∙ begun)) in
     position_if (counts contents.current (image (entry_word i 0))) (version_in contents.current image i) version contents.current.position
     (λ counted. (keeps.entries i within).position counted) (keeps.versions i within ∙ begun)
-
--- ---- a version that is made again
-
-module _ (contents : Contents) (table : Table) (room : Room) (follows : Follows contents table room []) (image : Image) (keeps : Keeps contents image) (id : RecordId) (part : Part) (after : Table) (left : Room)
-    (again : IsMadeAgain table room id part after left) where
-  cell_is : IsCellOf contents.versions id again.cell
-  cell_is = follows.table_is.live id again.cell again.found
-
-  makes : MakesAgain contents part
-  makes = record {
-    put = again.put;
-    changes = again.changes;
-    entry = again.cell.entry;
-    version = cell_is.live.version;
-    held = cell_is.live.begun;
-    live = cell_is.live.not_ended;
-    id_is = cell_is.live.id_is ∙ sym again.id_is;
-    value_is = cell_is.live.value_is ∙ sym again.value_is;
-    position_is = sym cell_is.position_is ∙ sym again.position_is;
-  }
-
-  puts_are : puts_of_part part ≡ again.put ∷ []
-  puts_are = ap (flat_map put_of) again.changes
-
-  takes : AreTaken room (puts_of_part part) left
-  takes = subst (λ (puts : List Put). AreTaken room puts left) (sym puts_are) (AreTaken-claimed room again.put left again.place again.fitting)
-
-  below : part.position ≤ contents.current.position
-  unfolding makes cell_is
-  below =
-      subst (λ n. n ≤ contents.current.position) makes.position_is
-      (position_below contents image follows.consistent keeps again.cell.entry cell_is.live.version cell_is.live.begun)
-
-  -- the engine may be asked for it
-  pub relocates : IsRelocation contents part
-  relocates = IsRelocation-one contents table room follows part left takes again.ended makes below
-
-  -- the tables follow what it makes of the contents
-  pub Follows-moved : (new : Contents) → Same (after_relocation contents part) new → Follows new after left part.ended.items
-  Follows-moved new same =
-      let now = Follows-relocated contents table room follows part left takes again.ended relocates in
-      rw (Same-is (after_relocation contents part) new same, again.after_is) now
-
-  -- ---- the map
-
-  stood_where : (was : Option Version) → ((v : Version) → was ≡ Some v → Stood contents.versions v) → (change : PlacedChange) (version : Version)
-      → ended_where_begun (change_of change) was ≡ Some version → Stood contents.versions version
-  stood_where None stood change version is = cc
-  stood_where (Some old) stood change version is =
-      let from = stood old refl in
-      let same : ended_by (change_of change) old ≡ version = cc in
-      subst (Stood contents.versions) same
-      (record {
-        i = from.i;
-        was = from.was;
-        begun = from.begun;
-        id_is = from.id_is;
-        value_is = from.value_is;
-        position_is = from.position_is;
-        live = λ live. from.live (not_either old.is_ended _ live);
-      })
-    where
-      not_either : (a b : Bool) → (a || b) ≡ false → a ≡ false
-      not_either true b is = is
-      not_either false b is = refl
-
-  stood_put : (here : Bool) (rest : Option Version) → ((v : Version) → rest ≡ Some v → Stood contents.versions v) → (version : Version)
-      → cond here (Some (version_of_put part.position again.put)) rest ≡ Some version → Stood contents.versions version
-  unfolding makes
-  stood_put true rest stood version is =
-      let same : version_of_put part.position again.put ≡ version = cc in
-      subst (Stood contents.versions) same
-      (record {
-        i = makes.entry;
-        was = makes.version;
-        begun = makes.held;
-        id_is = makes.id_is;
-        value_is = makes.value_is;
-        position_is = makes.position_is;
-        live = λ _. makes.live;
-      })
-  stood_put false rest stood version is = stood version is
-
-  stood : (i : ℕ) (version : Version) → part_versions contents.versions part i ≡ Some version → Stood contents.versions version
-  stood i version is =
-      let now : changes_versions part.position contents.versions (placed.Put again.put ∷ []) i ≡ Some version =
-      ap (λ (changes : List PlacedChange). changes_versions part.position contents.versions changes i) (sym again.changes) ∙ is in
-      stood_put (nat_eq i again.put.entry.0) (ended_where_begun (change_of (placed.Put again.put)) (contents.versions i))
-      (λ v held. stood_where (contents.versions i) (λ w begun. record { i = i; was = w; begun = begun; id_is = refl; value_is = refl; position_is = refl; live = λ live. live }) (placed.Put again.put) v held)
-      version now
-
-  pub rearranged-moved : ¬ ExhaustsRelocation contents.current → IsRearranged contents (after_relocation contents part)
-  rearranged-moved room_left = record {
-    position = refl;
-    epoch = refl;
-    role = refl;
-    line_count = refl;
-    map = relocated_map follows.consistent relocates;
-    lawful = λ are. relocated_lawful contents part are relocates room_left;
-    stood = stood;
-  }
-
-  -- the same records stand in the table
-  pub records-moved : records after ≡ records table
-  records-moved =
-      let now = Follows-moved (after_relocation contents part) (record { current = refl; lines = refl; versions = λ i. refl; is_free = λ i. refl }) in
-      let n = entries_of contents in
-      let was : IsMapOf contents.versions n (records table) = map-from_table contents.versions n table follows.consistent.beyond follows.table_is in
-      IsMapOf-unique (map-from_table (part_versions contents.versions part) n after now.consistent.beyond now.table_is) (relocated_map follows.consistent relocates (records table) follows.table_is.keyspace was)
-      now.table_is.keyspace follows.table_is.keyspace
-
--- counters that are not near their limit are not brought to it
-pub not_exhausted-moved : (current : Record) → ¬ IsNearLimit current → ¬ ExhaustsRelocation current
-not_exhausted-moved current far (inl stamps) = far (inl (omega (arith, stamps)))
-not_exhausted-moved current far (inr number) = far (inr (omega (arith, number)))

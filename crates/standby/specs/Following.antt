@@ -5,6 +5,7 @@ use Rattle.kv_types.specs.Keyspace.{IsKeyspace, Keyspace, play_all}
 use Rattle.extent_heap.specs.Room.{Room}
 use Rattle.model.specs.declared.image.TheConstants.{COUNTER_LIMIT, STAMP_WINDOW}
 use Rattle.model.specs.declared.record.Record.{Record}
+use Rattle.model.specs.declared.record.Role.TheVariants.{Newcomer}
 use Rattle.model.specs.Image.{Image, IsMapOf, Version}
 use Rattle.model.specs.Group.{AreApart, Contents, IsConsistent, Versions, is_ended_version, entries_of}
 use Rattle.mv_keyspace.specs.Table.{Table, IsTable, records}
@@ -89,18 +90,24 @@ HasRoomOnceFreed room ended contents frame =
     (freed : Room) → GivesAll room ended (extents_of contents.versions ended) freed → HasRoomAtOnce contents.lines freed frame
 
 -- After this record, a commit of the frame would bring the limit of the stamps, the position, the number of the record, or an epoch that
--- rises to the limit of counters.
+-- rises to the limit of counters; or the record is a newcomer's, which takes no frame.
 abbrev pub WouldExhaust : Record → Frame → Type 0
 WouldExhaust current frame =
     (COUNTER_LIMIT ≤ current.cp + 1 + 1 + STAMP_WINDOW)
     ⊎ (COUNTER_LIMIT ≤ frame.after)
     ⊎ (COUNTER_LIMIT ≤ current.number + 1)
     ⊎ ((current.epoch < frame.epoch) × (COUNTER_LIMIT ≤ frame.epoch))
+    ⊎ (current.role ≡ Newcomer)
 
 -- After this record there is no step left to make room with that leaves the commit of the frame its counters: one more record, or one more stamp,
 -- would bring them to the limit.
 abbrev pub IsNearLimit : Record → Type 0
 IsNearLimit current = (COUNTER_LIMIT ≤ current.cp + 1 + 1 + 1 + STAMP_WINDOW) ⊎ (COUNTER_LIMIT ≤ current.number + 1 + 1)
+
+-- After this record so many versions may be moved under the next one, and the commit of the frame behind that still has its counters.
+pub record HasCountersFor (count : ℕ) (current : Record) : Type 0 where
+  pub stamps : current.cp + count + 1 + 1 + STAMP_WINDOW < COUNTER_LIMIT
+  pub number : current.number + 1 + 1 < COUNTER_LIMIT
 
 -- ---- room that is made
 

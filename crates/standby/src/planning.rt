@@ -103,7 +103,7 @@ impl<E: Durable, K: Keyspace> Standby<E, K> {
         self.fits_below(alloc, frame, end)
     }
 
-    /// Makes these moves of rows in turn, up to one that cannot be made.
+    /// Makes these moves of rows, as many at a time as one record takes, up to one that cannot be made.
     ///
     /// # Errors
     ///
@@ -123,13 +123,13 @@ impl<E: Durable, K: Keyspace> Standby<E, K> {
         ensures rearranges { Rearranges E.device E.contents E.is_faulted K.table frame.now self.old result self.new }
         ensures gapless { IsGapless (E.contents self.old.engine).current → OnOk result (IsGapless (E.contents self.new.engine).current) }
     {
-        for step in moves {
-            let Some(row) = rows.get(step.index) else {
-                return Ok(());
-            };
-            if !self.move_version(alloc, frame, &row.id, step.to.first_line)? {
+        let mut left = moves;
+        for _ in moves {
+            let made = self.move_some(alloc, frame, rows, left)?;
+            if made == 0 {
                 return Ok(());
             }
+            left = left.split_at(made.min(left.len())).1;
         }
         Ok(())
     }

@@ -1,10 +1,11 @@
 //! Room for a frame that has none, once all that had ended is freed.
-ghost use Rattle.std.specs.Prelude.{◌≡◌, ◌⊎◌, ◌↔◌, [], true, false, IsTrue, IfOk, OnOk, OnErr, IsErrOf, Ok, Err};
+ghost use Rattle.std.specs.Prelude.{◌≡◌, ◌⊎◌, ◌↔◌, ◌<◌, ◌≤◌, [], true, false, IsTrue, IfOk, OnOk, OnErr, IsErrOf, Ok, Err};
 ghost use Rattle.kv_types.specs.declared.refusal.Refusal.TheVariants.{Fault};
+ghost use Rattle.model.specs.declared.group.TheConstants.{MAX_PARTS};
 ghost use Rattle.placing.specs.Place.{HasRoomFor};
 ghost use Rattle.wbl_engine.specs.Contents.{IsDurable};
 ghost use Rattle.frames.specs.declared.frame.Frame.{Frame as SomeFrame};
-ghost use Rattle.standby.specs.Following.{Follows, IsGapless, IsNearLimit, NoGapIsLeft, WouldExhaust};
+ghost use Rattle.standby.specs.Following.{Follows, HasCountersFor, IsGapless, IsNearLimit, NoGapIsLeft, WouldExhaust};
 ghost use Rattle.standby.specs.Moving.{HasCleared};
 ghost use Rattle.standby.specs.Spare.{HasRoomAtOnce};
 ghost use Rattle.standby.specs.Taking.{Rearranges, Tidies};
@@ -12,7 +13,7 @@ ghost use Rattle.standby.specs.Taking.{Rearranges, Tidies};
 use crate::standby::Standby;
 use frames::Frame;
 use kv_types::Refusal;
-use model::{COUNTER_LIMIT, Record, STAMP_WINDOW};
+use model::{COUNTER_LIMIT, MAX_PARTS, Record, STAMP_WINDOW};
 use mv_keyspace::Keyspace;
 use placing::{fits_surely, give_all, has_room_for};
 use std::alloc::Global;
@@ -128,4 +129,17 @@ pub(crate) fn is_near_limit(current: &Record) -> bool
     ensures { IsTrue result ↔ IsNearLimit current.now }
 {
     current.cp >= COUNTER_LIMIT - STAMP_WINDOW - 3 || current.number >= COUNTER_LIMIT - 2
+}
+
+/// How many versions may be moved under the next record, at most `MAX_PARTS`, so that the commit behind it still has its counters.
+pub(crate) fn moves_left(current: &Record) -> u64
+    ensures few { result ≤ MAX_PARTS }
+    ensures counters { 0 < result → HasCountersFor result current.now }
+    ensures none { result ≡ 0 ↔ IsNearLimit current.now }
+{
+    if is_near_limit(current) {
+        return 0;
+    }
+    let stamps = COUNTER_LIMIT - STAMP_WINDOW - 3 - current.cp;
+    stamps.min(MAX_PARTS as u64)
 }

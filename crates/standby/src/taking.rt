@@ -13,7 +13,7 @@ use crate::part::make_part;
 use crate::standby::Standby;
 use frames::{Ack, Frame};
 use kv_types::Refusal;
-use model::{COUNTER_LIMIT, Group, Record, STAMP_WINDOW};
+use model::{COUNTER_LIMIT, Group, Record, Role, STAMP_WINDOW};
 use mv_keyspace::Keyspace;
 use placing::give_all;
 use std::alloc::Global;
@@ -31,7 +31,7 @@ impl<E: Durable, K: Keyspace> Standby<E, K> {
     /// # Errors
     ///
     /// `WrongEpoch` for a frame of another epoch, `PositionGap` for one that begins elsewhere, or at position 0 for one of a higher epoch that ends
-    /// there, `Exhausted` if a counter would reach 2^62: nothing changed. `Full` if the image has no room for its puts, also after all that had ended
+    /// there, `Exhausted` if a counter would reach 2^62, or for a newcomer: nothing changed. `Full` if the image has no room for its puts, also after all that had ended
     /// is freed and the gaps of the record are cleared: that stands, and nothing else changed. `Memory` if an allocation was refused: nothing
     /// changed but what was done to make room. `Fault` if a fence failed: the engine holds the map that it held, or the whole frame, but the keyspace
     /// and the heap may be ahead of it or behind it, so the image has to be reopened.
@@ -164,7 +164,7 @@ fn is_next(position: u64, frame: &Frame) -> bool
     position < frame.after && frame.before == position
 }
 
-/// Whether the commit of the frame would bring a counter to its limit.
+/// Whether the commit of the frame would bring a counter to its limit, or the record is a newcomer's.
 fn would_exhaust(current: &Record, frame: &Frame) -> bool
     ensures { IsTrue result ↔ WouldExhaust current.now frame.now }
 {
@@ -172,4 +172,5 @@ fn would_exhaust(current: &Record, frame: &Frame) -> bool
         || frame.after >= COUNTER_LIMIT
         || current.number >= COUNTER_LIMIT - 1
         || (current.epoch < frame.epoch && frame.epoch >= COUNTER_LIMIT)
+        || current.role == Role::Newcomer
 }

@@ -62,7 +62,7 @@ apart_as ea eb ec ed (inl before) = inl (omega (arith, ea, eb, ec, before))
 apart_as ea eb ec ed (inr after) = inr (omega (arith, ea, ec, ed, after))
 
 -- two puts of different entries
-puts_apart : (puts : List Put) (put other : Put) → AreAllApart puts → IsAmong put puts → IsAmong other puts → put.entry.0 ≢ other.entry.0
+pub puts_apart : (puts : List Put) (put other : Put) → AreAllApart puts → IsAmong put puts → IsAmong other puts → put.entry.0 ≢ other.entry.0
     → AreApart put.extent.first_line put.extent.lines other.extent.first_line other.extent.lines
 puts_apart [] put other apart among there differ = absurd among
 puts_apart (first ∷ puts) put other apart (inl here) (inl also) differ =

@@ -15,12 +15,12 @@ use Rattle.model.proofs.RecordLemmas.{HasRecord-lines}
 use Rattle.model.proofs.LayoutLemmas.{entries_fit}
 use Rattle.wbl_record.specs.Current.{IsLawful}
 use Rattle.wbl_record.specs.Record.{IsRecorded, IsRecordWord, IsSucceeded, IsEitherRecord}
-use Rattle.wbl_engine.specs.AtRest.{IsAtRest, Matters, contents_of}
+use Rattle.wbl_engine.specs.AtRest.{IsQuiet, IsAtRest, Matters, contents_of}
 use Rattle.wbl_engine.specs.Contents.{Keeps}
 use Rattle.wbl_engine.specs.Erasing.{erase_pairs, erase_lines, oldest_gap, stamped_below}
 use Rattle.wbl_engine.specs.Freeing.{Clears, KeepsVersions, cleared_contents, is_listed, record_after_clearing}
 use Rattle.wbl_engine.specs.Stage.{AreWithin}
-use Rattle.wbl_engine.proofs.Erased.{AreBelow, CountAlike, IsErased, directory_matters, erased_keeps, erased_rest, erased_under, erased_versions, matters_beside, nothing, rest_below, versions-beyond, versions-within, whole_below, whole_sound}
+use Rattle.wbl_engine.proofs.Erased.{quiet_below, quiet_sound, AreBelow, CountAlike, IsErased, directory_matters, erased_keeps, erased_rest, erased_under, erased_versions, matters_beside, nothing, versions-beyond, versions-within, whole_below}
 use Rattle.wbl_engine.proofs.ErasedStamps.{AreGone, IsErasing, erase_behind, erase_line, erased_below, erased_over, is_erased_at, made_free, within_from, written_stamp}
 use Rattle.wbl_engine.proofs.GapLemmas.{IsOldest, in_oldest, inside_not_free, not_in_oldest, oldest, zero_outside}
 use Rattle.wbl_engine.proofs.ListedEntries.{listed_stamped, stamped_once}
@@ -106,10 +106,10 @@ without_alike r lines base image lawful some erased i k within low =
 -- ---- an engine at rest whose oldest gap is being cleared
 
 pub record IsClearing (r : Record) (d : State) (begins ends : List EntryNo) : Type 0 where
-  pub rest : IsAtRest r d
+  pub rest : IsQuiet r d
   pub stamped : AreStamped r d begins ends
 
-pub clearing : {r : Record} {d : State} {begins ends listed_begins listed_ends : List EntryNo} → IsAtRest r d → 0 < length r.gaps.items
+pub clearing : {r : Record} {d : State} {begins ends listed_begins listed_ends : List EntryNo} → IsQuiet r d → 0 < length r.gaps.items
     → begins ≡ listed_begins → ends ≡ listed_ends
     → listed_begins ≡ stamped_below (oldest_gap r) (image_of d.words) 0 (entries_of_lines r.layout d.lines)
     → listed_ends ≡ stamped_below (oldest_gap r) (image_of d.words) 1 (entries_of_lines r.layout d.lines) → IsClearing r d begins ends
@@ -130,7 +130,7 @@ module _ {r : Record} {d : State} {begins ends : List EntryNo} (begun : IsCleari
   -- Nothing is lost, under the old record
   cleared_old : (image : Image) → AreErased r d begins ends image → IsErased r r d.lines nothing (image_of d.words) image
   cleared_old image made =
-      erased_over (whole_sound begun.rest.whole) (gap_erasing begun.stamped) nothing image
+      erased_over (quiet_sound begun.rest) (gap_erasing begun.stamped) nothing image
       (written_over (Matters r d.lines (image_of d.words)) (image_of d.words) image (erase_pairs begins ends) made) (nothing_gone begun.stamped image)
 
   -- and under the one without the gap.
@@ -144,7 +144,7 @@ module _ {r : Record} {d : State} {begins ends : List EntryNo} (begun : IsCleari
   cleared_below : {top : ℕ} (image : Image) → AreErased r d begins ends image → AreBelow r.layout d.lines (image_of d.words) top
       → AreBelow r.layout d.lines image top
   cleared_below image made below =
-      erased_below (whole_sound begun.rest.whole) (gap_erasing begun.stamped) image
+      erased_below (quiet_sound begun.rest) (gap_erasing begun.stamped) image
       (written_over (Matters r d.lines (image_of d.words)) (image_of d.words) image (erase_pairs begins ends) made) below
 
   -- ---- the contents afterwards
@@ -165,7 +165,7 @@ module _ {r : Record} {d : State} {begins ends : List EntryNo} (begun : IsCleari
       record {
         current = refl;
         lines_are = lines;
-        versions = erased_versions c (contents_of r d).versions (whole_sound begun.rest.whole) (cleared_new (image_of c.words) made) lines
+        versions = erased_versions c (contents_of r d).versions (quiet_sound begun.rest) (cleared_new (image_of c.words) made) lines
             (λ i within. sym (versions-within r d i within)) (versions-beyond r d);
         is_free = made_free d c (gap_erasing begun.stamped) made lines;
         within = λ i listed. (stamped_where begun.stamped i 0 (omega arith) listed).0;
@@ -180,7 +180,7 @@ module _ {r : Record} {d : State} {begins ends : List EntryNo} (begun : IsCleari
       record {
         current = refl;
         lines_are = lines;
-        versions = erased_versions c (contents_of r d).versions (whole_sound begun.rest.whole) (cleared_old (image_of c.words) made) lines
+        versions = erased_versions c (contents_of r d).versions (quiet_sound begun.rest) (cleared_old (image_of c.words) made) lines
             (λ i within. sym (versions-within r d i within)) (versions-beyond r d);
         is_free = λ i free.
             made_free d c (gap_erasing begun.stamped) made lines i ∙ or_left ((contents_of r d).is_free i) (is_listed i begins) free;
@@ -193,9 +193,9 @@ module _ {r : Record} {d : State} {begins ends : List EntryNo} (begun : IsCleari
       LeavesOnly-weaken (IsClearedOrNot r d)
       (λ image partly.
       let over = partly_over (Matters r d.lines (image_of d.words)) d image (erase_pairs begins ends) begun.rest.certain partly in
-      let sound = whole_sound begun.rest.whole in
+      let sound = quiet_sound begun.rest in
       inl (erased_keeps (contents_of r d) sound (erased_over sound (gap_erasing begun.stamped) nothing image over (nothing_gone begun.stamped image))
-      (omega arith) (erased_below sound (gap_erasing begun.stamped) image over (rest_below begun.rest)) (λ i within. sym (versions-within r d i within))
+      (omega arith) (erased_below sound (gap_erasing begun.stamped) image over (quiet_below begun.rest)) (λ i within. sym (versions-within r d i within))
       (partly_recorded d image (erase_pairs begins ends) begun.rest.many (erase_behind (gap_erasing begun.stamped)) begun.rest.recorded partly)))
       moments
 
@@ -205,31 +205,31 @@ pub recorded_erased : {r : Record} {d b : State} {begins ends : List EntryNo} (c
     → ((word : ℕ) → (IsRecordWord next.layout b.lines next.number word → ⊥) → image_of c.words word ≡ image_of b.words word)
     → AreErased r d begins ends (image_of c.words)
 recorded_erased {r} {d} c next is begun staged newest word matters =
-    newest word (beside_next next is staged.stays.lines begun.rest.many word (matters_beside (whole_sound begun.rest.whole) word matters))
+    newest word (beside_next next is staged.stays.lines begun.rest.many word (matters_beside (quiet_sound begun.rest) word matters))
     ∙ staged.newest word
 
 module _ {r : Record} {d b : State} {begins ends : List EntryNo} (begun : IsClearing r d begins ends) (lawful : IsLawful (record_after_clearing r))
     (staged : Staged d b (erase_pairs begins ends) (erase_lines begins ends)) where
   matters_out : (word : ℕ) → Matters r d.lines (image_of d.words) word → IsRecordWord r.layout b.lines (r.number + 1) word → ⊥
   matters_out word matters =
-      beside_at r.layout (r.number + 1) word staged.stays.lines begun.rest.many (matters_beside (whole_sound begun.rest.whole) word matters)
+      beside_at r.layout (r.number + 1) word staged.stays.lines begun.rest.many (matters_beside (quiet_sound begun.rest) word matters)
 
   staged_certain : (word : ℕ) → Matters r d.lines (image_of d.words) word → Only (b.words word) (image_of b.words word)
   staged_certain word matters = staged_only (erase_line begins ends) staged word (λ out. begun.rest.certain word matters)
 
-  pub cleared_rest : {c : State} → IsRecorded b c (record_after_clearing r) → IsAtRest (record_after_clearing r) c
-  cleared_rest {c} recorded =
+  pub cleared_rest : {c : State} → IsAtRest r d → IsRecorded b c (record_after_clearing r) → IsAtRest (record_after_clearing r) c
+  cleared_rest {c} rest recorded =
       let made = recorded_erased c (record_after_clearing r) refl begun staged recorded.newest in
-      erased_rest begun.rest.many begun.rest.few (whole_sound begun.rest.whole) (cleared_new begun (image_of c.words) made) lawful (omega arith)
-      (cleared_below begun (image_of c.words) made (whole_below begun.rest.whole)) (recorded.stays.lines ∙ staged.stays.lines) recorded.durable
+      erased_rest begun.rest.many begun.rest.few (quiet_sound begun.rest) (cleared_new begun (image_of c.words) made) lawful (omega arith)
+      (cleared_below begun (image_of c.words) made (whole_below rest.whole)) (recorded.stays.lines ∙ staged.stays.lines) recorded.durable
       (λ word matters. recorded_only recorded word (matters_out word matters) (staged_certain word matters))
 
   clear_either : (image : Image) → IsEitherRecord b r (record_after_clearing r) image → IsClearedOrNot r d image
   clear_either image recorded =
       let made : AreErased r d begins ends image =
       λ word matters. (staged_certain word matters).only (image word) (recorded.elsewhere word (matters_out word matters)) ∙ staged.newest word in
-      let sound = whole_sound begun.rest.whole in
-      let below = cleared_below begun image made (rest_below begun.rest) in
+      let sound = quiet_sound begun.rest in
+      let below = cleared_below begun image made (quiet_below begun.rest) in
       elim recorded.either [
         | inl old ↦
             inl (erased_keeps (contents_of r d) sound (cleared_old begun image made) (omega arith) below (λ i within. sym (versions-within r d i within))
@@ -251,6 +251,6 @@ module _ {r : Record} {d b : State} {begins ends : List EntryNo} (begun : IsClea
       })))
 
 -- where nothing was stored
-pub clear_none : {r : Record} {d : State} → IsAtRest r d → ((image : Image) → IsImage d.words image → Keeps (contents_of r d) image)
+pub clear_none : {r : Record} {d : State} → ((image : Image) → IsImage d.words image → Keeps (contents_of r d) image)
     → LeavesOnly d d (IsClearedOrNot r d)
-clear_none {r} {d} rest keeps = none_leaves d (IsClearedOrNot r d) (λ image is. inl (keeps image is))
+clear_none {r} {d} keeps = none_leaves d (IsClearedOrNot r d) (λ image is. inl (keeps image is))

@@ -27,7 +27,7 @@ put_covered stamp position put word x stored =
           (inl (omega (arith, entry.0.low, entry.0.high)))
     ]
 
-puts_covered : (stamp position : ℕ) (puts : List Put) (word x : ℕ) → IsStored (puts_pairs stamp position puts) word x → IsLine (puts_lines puts) (word / 8)
+pub puts_covered : (stamp position : ℕ) (puts : List Put) (word x : ℕ) → IsStored (puts_pairs stamp position puts) word x → IsLine (puts_lines puts) (word / 8)
 puts_covered stamp position [] word x stored = absurd stored
 puts_covered stamp position (put ∷ puts) word x stored =
     elim (IsStored-append (put_pairs stamp position put) (puts_pairs stamp position puts) word x stored) [
@@ -64,7 +64,7 @@ pub record IsStoredPut (pairs : List (ℕ × ℕ)) (put : Put) : Type 0 where
   pub position : ℕ
   pub all : (word x : ℕ) → IsStored (put_pairs stamp position put) word x → IsStored pairs word x
 
-puts_stored : (stamp position : ℕ) (puts : List Put) (put : Put) → IsAmong put puts → (word x : ℕ) → IsStored (put_pairs stamp position put) word x
+pub puts_stored : (stamp position : ℕ) (puts : List Put) (put : Put) → IsAmong put puts → (word x : ℕ) → IsStored (put_pairs stamp position put) word x
     → IsStored (puts_pairs stamp position puts) word x
 puts_stored stamp position [] put among word x stored = absurd among
 puts_stored stamp position (other ∷ puts) put (inl here) word x stored =

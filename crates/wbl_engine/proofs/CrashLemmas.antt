@@ -9,6 +9,7 @@ use Rattle.pmem.proofs.Leaving.{step_leaves}
 use Rattle.pmem.proofs.Staging.{IsImage-settled}
 use Rattle.model.specs.declared.record.Record.{Record}
 use Rattle.wbl_engine.specs.AtRest.{IsAtRest}
+use Rattle.wbl_engine.specs.Copying.{IsHalf}
 
 -- the words of the present moment are the present ones
 words_at-now : (now : ℕ → Word) (past : List (ℕ → Word)) (t : ℕ) → length past ≤ t → words_at now past t ≡ now
@@ -62,6 +63,20 @@ rest_asked r old new words lines rest =
     let same : IsAtRest r (record old { words = new.words; lines = new.lines }) =
     subst (λ (w : ℕ → Word). IsAtRest r (record old { words = w; lines = new.lines })) (sym words) (subst (λ (n : ℕ). IsAtRest r (record old { lines = n })) (sym lines) rest) in
     record { many = same.many; few = same.few; lawful = same.lawful; whole = same.whole; recorded = same.recorded; certain = same.certain }
+
+pub half_asked : (r : Record) (old new : State) → new.words ≡ old.words → new.lines ≡ old.lines → IsHalf r old → IsHalf r new
+half_asked r old new words lines half =
+    let same : IsHalf r (record old { words = new.words; lines = new.lines }) =
+    subst (λ (w : ℕ → Word). IsHalf r (record old { words = w; lines = new.lines })) (sym words) (subst (λ (n : ℕ). IsHalf r (record old { lines = n })) (sym lines) half) in
+    record {
+      many = same.many;
+      few = same.few;
+      lawful = same.lawful;
+      newcomer = same.newcomer;
+      half = same.half;
+      recorded = same.recorded;
+      certain = same.certain;
+    }
 
 -- ---- a moment that was kept
 

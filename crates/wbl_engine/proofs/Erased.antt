@@ -17,7 +17,7 @@ use Rattle.model.specs.declared.layout.TheConstants.{SUPERBLOCK_WORDS}
 use Rattle.model.specs.Layout.{directory_end, first_word}
 use Rattle.model.specs.ReadImage.{is_clash, record_in}
 use Rattle.wbl_record.specs.Current.{IsCurrent, IsLawful}
-use Rattle.wbl_engine.specs.AtRest.{IsAtRest, IsInExtent, IsWhole, Matters, contents_of}
+use Rattle.wbl_engine.specs.AtRest.{IsAtRest, IsInExtent, IsQuiet, IsWhole, Matters, contents_of}
 use Rattle.wbl_engine.specs.Contents.{Keeps}
 use Rattle.wbl_engine.specs.Lawful.{IsUndamaged}
 use Rattle.wbl_engine.specs.Reopening.{IsBesideRecords}
@@ -54,6 +54,30 @@ whole_below whole i (suc (suc k)) within low = absurd (omega (arith, low))
 
 pub rest_below : {r : Record} {d : State} → IsAtRest r d → AreBelow r.layout d.lines (image_of d.words) r.cd
 rest_below rest i k within low = omega (arith, whole_below rest.whole i k within low, rest.lawful.limit)
+
+pub quiet_sound : {r : Record} {d : State} → IsQuiet r d → IsSound r d.lines (image_of d.words)
+quiet_sound quiet = record { superblock = quiet.superblock; entries = quiet.entries; positions = quiet.positions }
+
+pub quiet_below : {r : Record} {d : State} → IsQuiet r d → AreBelow r.layout d.lines (image_of d.words) r.cd
+quiet_below quiet i zero within low = quiet.begins i within
+quiet_below quiet i (suc zero) within low = quiet.ends i within
+quiet_below quiet i (suc (suc k)) within low = absurd (omega (arith, low))
+
+-- a device at rest is quiet
+pub rest_quiet : {r : Record} {d : State} → IsAtRest r d → IsQuiet r d
+rest_quiet rest =
+    record {
+      many = rest.many;
+      few = rest.few;
+      lawful = rest.lawful;
+      superblock = rest.whole.superblock;
+      begins = λ i within. rest_below rest i 0 within (omega arith);
+      ends = λ i within. rest_below rest i 1 within (omega arith);
+      entries = rest.whole.entries;
+      positions = rest.whole.positions;
+      recorded = rest.recorded;
+      certain = rest.certain;
+    }
 
 pub undamaged_below : {r : Record} {lines : ℕ} {base : Image} → IsUndamaged lines r base → AreBelow r.layout lines base r.cd
 undamaged_below whole i zero within low = (whole.versions.entries i within).begin

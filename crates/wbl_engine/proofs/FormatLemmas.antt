@@ -6,7 +6,7 @@ use Rattle.pmem.specs.Crash.{image_of}
 use Rattle.pmem.specs.Runs.{LeavesOnly, Staged, StageFailed, IsPartlyStored, IsStored, IsOutside, written, lines_from}
 use Rattle.pmem.proofs.Leaving.{LeavesOnly-then, LeavesOnly-weaken}
 use Rattle.pmem.proofs.Staging.{same_or_other, IsLine-lines_from}
-use Rattle.model.specs.declared.image.TheConstants.{MIN_LINES, MAX_LINES}
+use Rattle.model.specs.declared.image.TheConstants.{COUNTER_LIMIT, MIN_LINES, MAX_LINES}
 use Rattle.model.specs.declared.record.Record.{Record}
 use Rattle.model.specs.declared.record.Role.{Role}
 use Rattle.model.specs.Layout.{first_word, root_word, slot_lines}
@@ -68,9 +68,9 @@ no_version lines first image has i within =
     cond-false _ _ _ (ap (counts first) (has.entry i 0 within (omega arith)) ∙ counts-zero first)
 
 -- with the magic it is the new image
-new_keeps : (lines : ℕ) (role : Role) (image : Image) → image 0 ≡ magic_number → HasNew lines (first_record role) image → Keeps (new_contents lines role) image
-new_keeps lines role image magic has =
-    let first : Record = first_record role in
+new_keeps : (lines : ℕ) (role : Role) (epoch : ℕ) (image : Image) → image 0 ≡ magic_number → HasNew lines (first_record role epoch) image → Keeps (new_contents lines role epoch) image
+new_keeps lines role epoch image magic has =
+    let first : Record = first_record role epoch in
     record {
       superblock = new_superblock lines first image magic has;
       has_record = new_record lines first image has;
@@ -109,16 +109,16 @@ written_new {b} {c} lines first image many staged may =
     }
 
 -- the magic is gone until it comes back
-magic_gone : {a b c : State} (lines : ℕ) (role : Role) → Staged a b (magic_pairs 0) (0 ∷ [])
-    → Staged b c (new_pairs lines (first_record role)) (lines_from 0 (first_extent_line lines)) → (x : ℕ) → MayBe (c.words 0) x → x ≡ 0
-magic_gone {a} {b} {c} lines role first second x may =
-    (first.certain 0 (inl refl)).only x (second.elsewhere 0 x (magic_outside lines (first_record role)) may)
+magic_gone : {a b c : State} (lines : ℕ) (role : Role) (epoch : ℕ) → Staged a b (magic_pairs 0) (0 ∷ [])
+    → Staged b c (new_pairs lines (first_record role epoch)) (lines_from 0 (first_extent_line lines)) → (x : ℕ) → MayBe (c.words 0) x → x ≡ 0
+magic_gone {a} {b} {c} lines role epoch first second x may =
+    (first.certain 0 (inl refl)).only x (second.elsewhere 0 x (magic_outside lines (first_record role epoch)) may)
 
 -- ---- the moments
 
-pub first_leaves : (lines : ℕ) (role : Role) (words : ℕ → Word) (image : Image) → IsPartlyStored (magic_pairs 0) words image
-    → IsFormatting words lines role image
-first_leaves lines role words image partly =
+pub first_leaves : (lines : ℕ) (role : Role) (epoch : ℕ) (words : ℕ → Word) (image : Image) → IsPartlyStored (magic_pairs 0) words image
+    → IsFormatting words lines role epoch image
+first_leaves lines role epoch words image partly =
     elim (partly 0) [
       | inl may ↦
           inl (λ word.
@@ -129,24 +129,24 @@ first_leaves lines role words image partly =
       | inr stored ↦ inr (inr (no_magic image (magic_stored 0 0 (image 0) stored).1))
     ]
 
-pub second_leaves : {a b : State} (lines : ℕ) (role : Role) (image : Image) → Staged a b (magic_pairs 0) (0 ∷ [])
-    → IsPartlyStored (new_pairs lines (first_record role)) b.words image → IsFormatting a.words lines role image
-second_leaves {a} {b} lines role image first partly =
+pub second_leaves : {a b : State} (lines : ℕ) (role : Role) (epoch : ℕ) (image : Image) → Staged a b (magic_pairs 0) (0 ∷ [])
+    → IsPartlyStored (new_pairs lines (first_record role epoch)) b.words image → IsFormatting a.words lines role epoch image
+second_leaves {a} {b} lines role epoch image first partly =
     inr (inr (no_magic image
     (elim (partly 0) [
       | inl may ↦ (first.certain 0 (inl refl)).only (image 0) may
-      | inr stored ↦ absurd (magic_outside lines (first_record role) (image 0) stored)
+      | inr stored ↦ absurd (magic_outside lines (first_record role epoch) (image 0) stored)
     ])))
 
-pub third_leaves : {a b c : State} (lines : ℕ) (role : Role) (image : Image) → MIN_LINES ≤ lines → Staged a b (magic_pairs 0) (0 ∷ [])
-    → Staged b c (new_pairs lines (first_record role)) (lines_from 0 (first_extent_line lines)) → IsPartlyStored (magic_pairs magic_number) c.words image
-    → IsFormatting a.words lines role image
-third_leaves {a} {b} {c} lines role image many first second partly =
+pub third_leaves : {a b c : State} (lines : ℕ) (role : Role) (epoch : ℕ) (image : Image) → MIN_LINES ≤ lines → Staged a b (magic_pairs 0) (0 ∷ [])
+    → Staged b c (new_pairs lines (first_record role epoch)) (lines_from 0 (first_extent_line lines)) → IsPartlyStored (magic_pairs magic_number) c.words image
+    → IsFormatting a.words lines role epoch image
+third_leaves {a} {b} {c} lines role epoch image many first second partly =
     elim (partly 0) [
-      | inl may ↦ inr (inr (no_magic image (magic_gone lines role first second (image 0) may)))
+      | inl may ↦ inr (inr (no_magic image (magic_gone lines role epoch first second (image 0) may)))
       | inr stored ↦
-          inr (inl (new_keeps lines role image (magic_stored magic_number 0 (image 0) stored).1
-          (written_new lines (first_record role) image many second
+          inr (inl (new_keeps lines role epoch image (magic_stored magic_number 0 (image 0) stored).1
+          (written_new lines (first_record role epoch) image many second
           (λ word other below.
           elim (partly word) [
             | inl may ↦ may
@@ -154,34 +154,34 @@ third_leaves {a} {b} {c} lines role image many first second partly =
           ]))))
     ]
 
-pub first_moments : {a b : State} (lines : ℕ) (role : Role) → LeavesOnly a b (IsPartlyStored (magic_pairs 0) a.words)
-    → LeavesOnly a b (IsFormatting a.words lines role)
-first_moments {a} {b} lines role moments =
-    LeavesOnly-weaken (IsFormatting a.words lines role) (first_leaves lines role a.words) moments
+pub first_moments : {a b : State} (lines : ℕ) (role : Role) (epoch : ℕ) → LeavesOnly a b (IsPartlyStored (magic_pairs 0) a.words)
+    → LeavesOnly a b (IsFormatting a.words lines role epoch)
+first_moments {a} {b} lines role epoch moments =
+    LeavesOnly-weaken (IsFormatting a.words lines role epoch) (first_leaves lines role epoch a.words) moments
 
-pub second_moments : {a b c : State} (lines : ℕ) (role : Role) → Staged a b (magic_pairs 0) (0 ∷ [])
-    → LeavesOnly b c (IsPartlyStored (new_pairs lines (first_record role)) b.words) → LeavesOnly a c (IsFormatting a.words lines role)
-second_moments {a} {b} {c} lines role first moments =
-    LeavesOnly-then (first_moments lines role first.moments)
-    (LeavesOnly-weaken (IsFormatting a.words lines role) (λ image partly. second_leaves lines role image first partly) moments)
+pub second_moments : {a b c : State} (lines : ℕ) (role : Role) (epoch : ℕ) → Staged a b (magic_pairs 0) (0 ∷ [])
+    → LeavesOnly b c (IsPartlyStored (new_pairs lines (first_record role epoch)) b.words) → LeavesOnly a c (IsFormatting a.words lines role epoch)
+second_moments {a} {b} {c} lines role epoch first moments =
+    LeavesOnly-then (first_moments lines role epoch first.moments)
+    (LeavesOnly-weaken (IsFormatting a.words lines role epoch) (λ image partly. second_leaves lines role epoch image first partly) moments)
 
-pub third_moments : {a b c d : State} (lines : ℕ) (role : Role) → MIN_LINES ≤ lines → Staged a b (magic_pairs 0) (0 ∷ [])
-    → Staged b c (new_pairs lines (first_record role)) (lines_from 0 (first_extent_line lines)) → LeavesOnly c d (IsPartlyStored (magic_pairs magic_number) c.words)
-    → LeavesOnly a d (IsFormatting a.words lines role)
-third_moments {a} {b} {c} {d} lines role many first second moments =
-    LeavesOnly-then (second_moments lines role first second.moments)
-    (LeavesOnly-weaken (IsFormatting a.words lines role) (λ image partly. third_leaves lines role image many first second partly) moments)
+pub third_moments : {a b c d : State} (lines : ℕ) (role : Role) (epoch : ℕ) → MIN_LINES ≤ lines → Staged a b (magic_pairs 0) (0 ∷ [])
+    → Staged b c (new_pairs lines (first_record role epoch)) (lines_from 0 (first_extent_line lines)) → LeavesOnly c d (IsPartlyStored (magic_pairs magic_number) c.words)
+    → LeavesOnly a d (IsFormatting a.words lines role epoch)
+third_moments {a} {b} {c} {d} lines role epoch many first second moments =
+    LeavesOnly-then (second_moments lines role epoch first second.moments)
+    (LeavesOnly-weaken (IsFormatting a.words lines role epoch) (λ image partly. third_leaves lines role epoch image many first second partly) moments)
 
 -- ---- the end
 
 -- what a crash leaves of the finished image
-finished : {b c d : State} (lines : ℕ) (role : Role) → MIN_LINES ≤ lines
-    → Staged b c (new_pairs lines (first_record role)) (lines_from 0 (first_extent_line lines)) → Staged c d (magic_pairs magic_number) (0 ∷ []) → (image : Image)
+finished : {b c d : State} (lines : ℕ) (role : Role) (epoch : ℕ) → MIN_LINES ≤ lines
+    → Staged b c (new_pairs lines (first_record role epoch)) (lines_from 0 (first_extent_line lines)) → Staged c d (magic_pairs magic_number) (0 ∷ []) → (image : Image)
     → ((word : ℕ) → word < 8 * first_extent_line lines → MayBe (d.words word) (image word))
-    → (image 0 ≡ magic_number) × HasNew lines (first_record role) image
-finished {b} {c} {d} lines role many second third image may = (
+    → (image 0 ≡ magic_number) × HasNew lines (first_record role epoch) image
+finished {b} {c} {d} lines role epoch many second third image may = (
   (third.certain 0 (inl refl)).only (image 0) (may 0 (omega arith)),
-  written_new lines (first_record role) image many second
+  written_new lines (first_record role epoch) image many second
       (λ word other below. third.elsewhere word (image word) (magic_other magic_number word other) (may word below)),
 )
 
@@ -197,72 +197,73 @@ matters_below lines first image has word (inr (inr (i, within, begun, at))) =
 only_newest : (word : Word) (x : ℕ) → ((y : ℕ) → MayBe word y → y ≡ x) → Only word word.newest
 only_newest word x one = record { only = λ y may. one y may ∙ sym (one word.newest (inl refl)) }
 
-certain_below : {b c d : State} (lines : ℕ) (role : Role) → Staged b c (new_pairs lines (first_record role)) (lines_from 0 (first_extent_line lines))
+certain_below : {b c d : State} (lines : ℕ) (role : Role) (epoch : ℕ) → Staged b c (new_pairs lines (first_record role epoch)) (lines_from 0 (first_extent_line lines))
     → Staged c d (magic_pairs magic_number) (0 ∷ []) → (word : ℕ) → word < 8 * first_extent_line lines → Only (d.words word) (image_of d.words word)
-certain_below {b} {c} {d} lines role second third word below =
+certain_below {b} {c} {d} lines role epoch second third word below =
     elim (same_or_other word 0) [
       | inl zeroth ↦
           only_newest (d.words word) (written (magic_pairs magic_number) (image_of c.words) word)
           (λ y may. (third.certain word (inl (omega (arith, zeroth)))).only y may)
       | inr other ↦
-          only_newest (d.words word) (written (new_pairs lines (first_record role)) (image_of b.words) word)
+          only_newest (d.words word) (written (new_pairs lines (first_record role epoch)) (image_of b.words) word)
           (λ y may.
           (second.certain word (IsLine-lines_from 0 (first_extent_line lines) (word / 8) (omega arith) (omega (arith, below)))).only y
           (third.elsewhere word y (magic_other magic_number word other) may))
     ]
 
 -- the first record obeys its rules
-pub first_lawful : (role : Role) → IsLawful (first_record role)
-first_lawful role =
+pub first_lawful : (role : Role) (epoch : ℕ) → 0 < epoch → epoch < COUNTER_LIMIT → IsLawful (first_record role epoch)
+first_lawful role epoch some below =
     record {
       some = omega arith;
       number = omega arith;
       position = omega arith;
       limit = refl;
       room = omega arith;
-      some_epoch = omega arith;
-      epoch = omega arith;
+      some_epoch = some;
+      epoch = below;
+      newcomer = λ is. refl;
       few = omega arith;
       gaps = tt;
     }
 
 -- The device is at rest with the first record.
-pub format_rest : {a b c d : State} (role : Role) → MIN_LINES ≤ a.lines → a.lines ≤ MAX_LINES → Staged a b (magic_pairs 0) (0 ∷ [])
-    → Staged b c (new_pairs a.lines (first_record role)) (lines_from 0 (first_extent_line a.lines)) → Staged c d (magic_pairs magic_number) (0 ∷ [])
-    → IsAtRest (first_record role) d
-format_rest {a} {b} {c} {d} role many few first second third =
+pub format_rest : {a b c d : State} (role : Role) (epoch : ℕ) → 0 < epoch → epoch < COUNTER_LIMIT → MIN_LINES ≤ a.lines → a.lines ≤ MAX_LINES → Staged a b (magic_pairs 0) (0 ∷ [])
+    → Staged b c (new_pairs a.lines (first_record role epoch)) (lines_from 0 (first_extent_line a.lines)) → Staged c d (magic_pairs magic_number) (0 ∷ [])
+    → IsAtRest (first_record role epoch) d
+format_rest {a} {b} {c} {d} role epoch some below many few first second third =
     let lines : d.lines ≡ a.lines = third.stays.lines ∙ second.stays.lines ∙ first.stays.lines in
-    let now = finished a.lines role many second third (image_of d.words) (λ word below. image_of-is d.words word) in
+    let now = finished a.lines role epoch many second third (image_of d.words) (λ word low. image_of-is d.words word) in
     record {
       many = omega (arith, lines, many);
       few = omega (arith, lines, few);
-      lawful = first_lawful role;
-      whole = subst (λ (n : ℕ). IsWhole (first_record role) n (image_of d.words)) (sym lines)
+      lawful = first_lawful role epoch some below;
+      whole = subst (λ (n : ℕ). IsWhole (first_record role epoch) n (image_of d.words)) (sym lines)
           (record {
-            superblock = new_superblock a.lines (first_record role) (image_of d.words) now.0 now.1;
+            superblock = new_superblock a.lines (first_record role epoch) (image_of d.words) now.0 now.1;
             begins = λ i within. omega (arith, now.1.entry i 0 within (omega arith));
             ends = λ i within. omega (arith, now.1.entry i 1 within (omega arith));
-            entries = λ i within begun. absurd (not_begun a.lines (first_record role) (image_of d.words) now.1 i within begun);
-            positions = λ i within begun. absurd (not_begun a.lines (first_record role) (image_of d.words) now.1 i within begun);
+            entries = λ i within begun. absurd (not_begun a.lines (first_record role epoch) (image_of d.words) now.1 i within begun);
+            positions = λ i within begun. absurd (not_begun a.lines (first_record role epoch) (image_of d.words) now.1 i within begun);
           });
       recorded = λ image is.
           HasRecord-lines (sym lines)
-          (new_record a.lines (first_record role) image (finished a.lines role many second third image (λ word below. is word)).1);
+          (new_record a.lines (first_record role epoch) image (finished a.lines role epoch many second third image (λ word below. is word)).1);
       certain = λ word matters.
-          certain_below a.lines role second third word
-          (matters_below a.lines (first_record role) (image_of d.words) now.1 word
-          (subst (λ (n : ℕ). Matters (first_record role) n (image_of d.words) word) lines matters));
+          certain_below a.lines role epoch second third word
+          (matters_below a.lines (first_record role epoch) (image_of d.words) now.1 word
+          (subst (λ (n : ℕ). Matters (first_record role epoch) n (image_of d.words) word) lines matters));
     }
 
 -- the device has as many lines as before, and the record was the first one
-pub second_staged : {b c : State} (lines : ℕ) (role : Role) (first : Record) → b.lines ≡ lines → first ≡ first_record role
+pub second_staged : {b c : State} (lines : ℕ) (role : Role) (epoch : ℕ) (first : Record) → b.lines ≡ lines → first ≡ first_record role epoch
     → Staged b c (new_pairs b.lines first) (lines_from 0 (first_extent_line b.lines))
-    → Staged b c (new_pairs lines (first_record role)) (lines_from 0 (first_extent_line lines))
-second_staged {b} {c} lines role first is of_role staged =
+    → Staged b c (new_pairs lines (first_record role epoch)) (lines_from 0 (first_extent_line lines))
+second_staged {b} {c} lines role epoch first is of_role staged =
     subst (λ (r : Record). Staged b c (new_pairs lines r) (lines_from 0 (first_extent_line lines))) of_role
     (subst (λ (n : ℕ). Staged b c (new_pairs n first) (lines_from 0 (first_extent_line n))) is staged)
 
-pub second_failed : {b c : State} (lines : ℕ) (role : Role) (first : Record) → b.lines ≡ lines → first ≡ first_record role
-    → StageFailed b c (new_pairs b.lines first) → StageFailed b c (new_pairs lines (first_record role))
-second_failed {b} {c} lines role first is of_role failed =
+pub second_failed : {b c : State} (lines : ℕ) (role : Role) (epoch : ℕ) (first : Record) → b.lines ≡ lines → first ≡ first_record role epoch
+    → StageFailed b c (new_pairs b.lines first) → StageFailed b c (new_pairs lines (first_record role epoch))
+second_failed {b} {c} lines role epoch first is of_role failed =
     subst (λ (r : Record). StageFailed b c (new_pairs lines r)) of_role (subst (λ (n : ℕ). StageFailed b c (new_pairs n first)) is failed)

@@ -1,5 +1,5 @@
 -- Versions that have ended are freed.
-use Rattle.std.proofs.Common.{◌≡◌, ℕ, zero, suc, ◌<◌, Bool, true, false, cond, ◌&&◌, ◌==◌, IsTrue, List, [], ◌∷◌, ◌++◌, inl, inr, Option, None, Some, map, refl, sym, ap, subst, ◌∙◌, arith}
+use Rattle.std.proofs.Common.{◌≡◌, ℕ, zero, suc, ◌<◌, ◌≤◌, Bool, true, false, cond, ◌&&◌, ◌==◌, IsTrue, List, [], ◌∷◌, ◌++◌, inl, inr, Option, None, Some, map, refl, sym, ap, subst, ◌∙◌, arith}
 use Rattle.std.specs.Prelude.{nat_eq}
 use Rattle.std.proofs.lemmas.Bool.{cond-true, or_cases, and_parts, and_from, eqb-true, eq-eqb, both_ways}
 use Rattle.kv_types.specs.declared.place.EntryNo.{EntryNo}
@@ -8,6 +8,7 @@ use Rattle.pmem.specs.Device.{State}
 use Rattle.pmem.specs.Crash.{image_of}
 use Rattle.pmem.specs.Runs.{LeavesOnly, Staged, IsPartlyStored, written}
 use Rattle.pmem.proofs.Leaving.{LeavesOnly-weaken, none_leaves}
+use Rattle.model.specs.declared.image.TheConstants.{MIN_LINES}
 use Rattle.model.specs.declared.record.Record.{Record}
 use Rattle.model.specs.Image.{Image, IsMapOf, Version, entry_word, entries_of_lines, counts, version_at, version_in}
 use Rattle.model.specs.Group.{Contents, Versions, is_ended_version, entries_of}
@@ -38,9 +39,12 @@ ended_within contents (entry ∷ entries) i ended listed =
     ]
 
 -- the lines of the entries are on the device
+pub listed_lines : (r : Record) (d : State) (entries : List EntryNo) → MIN_LINES ≤ d.lines → AreEnded (contents_of r d) entries → AreWithin d.lines entries
+listed_lines r d [] many ended = tt
+listed_lines r d (entry ∷ entries) many ended = (omega (arith, ended.0, many, entries_fit r.layout d.lines), listed_lines r d entries many ended.3)
+
 pub ended_lines : (r : Record) (d : State) (entries : List EntryNo) → IsAtRest r d → AreEnded (contents_of r d) entries → AreWithin d.lines entries
-ended_lines r d [] rest ended = tt
-ended_lines r d (entry ∷ entries) rest ended = (omega (arith, ended.0, rest.many, entries_fit r.layout d.lines), ended_lines r d entries rest ended.3)
+ended_lines r d entries rest ended = listed_lines r d entries rest.many ended
 
 -- only begins are erased
 pub ended_erasing : (r : Record) (d : State) (entries : List EntryNo) → AreEnded (contents_of r d) entries

@@ -34,6 +34,7 @@ lawful_but_one r lawful room =
       room = lawful.room;
       some_epoch = lawful.some_epoch;
       epoch = lawful.epoch;
+      newcomer = lawful.newcomer;
       few = simp length-drop (omega (arith, lawful.few));
       gaps = gaps_but_one r.gaps.items r.cp lawful.gaps;
     }

@@ -1,14 +1,12 @@
--- The parts of a group, and the one that moves a version, may commit under the record after them.
-use Rattle.std.proofs.Common.{◌≡◌, ℕ, ◌≤◌, not, ◌&&◌, List, [], ◌∷◌, sym, ap, subst, ◌∙◌, arith, append-nil}
+-- The parts of a group, and those that move versions, may commit under the record after them.
+use Rattle.std.proofs.Common.{◌≡◌, ℕ, ◌≤◌, List, [], ◌∷◌, length, refl, sym, ap, subst, ◌∙◌, arith}
 use Rattle.std.specs.List.{AllByRecursion}
 use Rattle.model.specs.declared.group.Group.{Group}
 use Rattle.model.specs.declared.group.Part.{Part}
-use Rattle.model.specs.declared.group.Put.{Put}
 use Rattle.model.specs.declared.record.Record.{Record}
-use Rattle.model.specs.Group.{AreAllApart, AreParts, Contents, HasItsLines, IsGroup, IsPlaced, IsUnused, Versions, after_group, is_put_at, last_position, next_record, part_versions, puts_of_part, entries_of}
+use Rattle.model.specs.Group.{AreParts, Contents, IsGroup, Versions, after_group, last_position, next_record, part_versions}
 use Rattle.wbl_engine.specs.Committing.{AreCommittable, AreNamed, after_parts, at_floor, record_after, under_floor}
-use Rattle.wbl_engine.specs.Relocating.{IsRelocation, after_relocation, relocated_record}
-use Rattle.wbl_engine.specs.Stage.{puts_of_parts}
+use Rattle.wbl_engine.specs.Relocating.{AreMadeAgain, IsRelocation, after_relocation, relocated_record}
 
 -- ---- a group
 
@@ -71,39 +69,43 @@ module _ (contents : Contents) (group : Group) {parts : List Part} {next : Recor
       ∙ ap (λ (epoch : ℕ). after_parts contents parts (next_record contents.current group).position epoch next.floor) (ap (λ (q : Record). q.epoch) is_next)
       ∙ ap (λ (ps : List Part). after_parts contents ps (next_record contents.current group).position group.epoch next.floor) is_parts
 
--- ---- one part, at a position that the record has
+-- ---- parts that move versions, at a position that the record has
 
-relocation_committable : (contents : Contents) (part : Part) → IsRelocation contents part
-    → AreCommittable contents (part ∷ []) contents.current.position
-relocation_committable contents part asked =
-    let same : puts_of_part part ≡ puts_of_parts (part ∷ []) = sym (append-nil (puts_of_part part)) in
+again_below : (position : ℕ) (parts : List Part) (versions : Versions) → AreMadeAgain position versions parts
+    → AllByRecursion (λ (part : Part). part.position ≤ position) parts
+again_below position [] versions each = tt
+again_below position (part ∷ parts) versions each = (each.0, again_below position parts (part_versions versions part) each.3)
+
+again_named : (position : ℕ) (parts : List Part) (versions : Versions) → AreMadeAgain position versions parts → AreNamed versions parts
+again_named position [] versions each = tt
+again_named position (part ∷ parts) versions each = (each.2, again_named position parts (part_versions versions part) each.3)
+
+relocation_committable : (contents : Contents) (parts : List Part) → IsRelocation contents parts
+    → AreCommittable contents parts contents.current.position
+relocation_committable contents parts asked =
     record {
       up = omega arith;
-      made = (asked.position, tt);
-      few = omega arith;
-      names = (asked.names, tt);
-      placed = subst (AllByRecursion (IsPlaced (entries_of contents) contents.lines)) same asked.placed;
-      fitting = subst (AllByRecursion HasItsLines) same asked.fitting;
-      unused = subst (AllByRecursion (IsUnused contents.versions contents.is_free)) same asked.unused;
-      apart = subst AreAllApart same asked.apart;
+      made = again_below contents.current.position parts contents.versions asked.each;
+      few = asked.few;
+      names = again_named contents.current.position parts contents.versions asked.each;
+      placed = asked.placed;
+      fitting = asked.fitting;
+      unused = asked.unused;
+      apart = asked.apart;
     }
 
-module _ (contents : Contents) (part : Part) {parts : List Part} {next : Record} (is_parts : parts ≡ part ∷ [])
-    (is_next : next ≡ relocated_record contents.current) where
-  pub relocation_asked : IsRelocation contents part → AreCommittable contents parts next.position
+module _ (contents : Contents) (parts : List Part) {next : Record} (is_next : next ≡ relocated_record (length parts) contents.current) where
+  pub relocation_asked : IsRelocation contents parts → AreCommittable contents parts next.position
   relocation_asked asked =
-      subst (λ (q : Record). AreCommittable contents parts q.position) (sym is_next)
-      (subst (λ (ps : List Part). AreCommittable contents ps contents.current.position) (sym is_parts)
-      (relocation_committable contents part asked))
+      subst (λ (q : Record). AreCommittable contents parts q.position) (sym is_next) (relocation_committable contents parts asked)
 
   pub relocation_record : next ≡ record_after contents.current parts next.position next.epoch next.floor
   relocation_record =
       subst (λ (q : Record). q ≡ record_after contents.current parts q.position q.epoch q.floor) (sym is_next)
-      (ap (λ (ps : List Part). record_after contents.current ps contents.current.position contents.current.epoch contents.current.floor) (sym is_parts))
+      (same (record_after contents.current parts contents.current.position contents.current.epoch contents.current.floor))
+    where
+      same : (q : Record) → q ≡ q
+      same q = refl
 
-  pub relocation_contents : after_parts contents parts next.position next.epoch next.floor ≡ after_relocation contents part
-  relocation_contents =
-      ap (λ (q : Record). after_parts contents parts q.position q.epoch q.floor) is_next
-      ∙ ap (λ (ps : List Part). after_parts contents ps contents.current.position contents.current.epoch contents.current.floor) is_parts
-      ∙ ap (λ (puts : List Put). record (after_relocation contents part) { is_free = λ i. contents.is_free i && not (is_put_at i puts) })
-      (append-nil (puts_of_part part))
+  pub relocation_contents : after_parts contents parts next.position next.epoch next.floor ≡ after_relocation contents parts
+  relocation_contents = ap (λ (q : Record). after_parts contents parts q.position q.epoch q.floor) is_next

@@ -6,6 +6,8 @@ use Rattle.model.specs.declared.group.Group.{Group}
 use Rattle.model.specs.declared.image.TheConstants.{MIN_LINES, MAX_LINES, COUNTER_LIMIT}
 use Rattle.model.specs.declared.record.Gap.{Gap}
 use Rattle.model.specs.declared.record.Role.{Role}
+use Rattle.model.specs.declared.record.Role.TheVariants.{Newcomer}
+use Rattle.model.specs.Floor.{with_floor}
 use Rattle.model.specs.declared.record.Record.{Record}
 use Rattle.model.specs.Group.{Versions, Contents, IsGroup, next_record, after_group, entries_of}
 use Rattle.model.specs.Image.{Image, Version, IsMapOf, map_below, entry_word, version_in, counts}
@@ -21,16 +23,18 @@ use Rattle.wbl_engine.proofs.SuccessorLemmas.{lawful_later}
 
 -- ---- a new image
 
-new_current : (lines : ℕ) (role : Role) (contents : Contents) → IsNew lines role contents → IsLawful contents.current
-new_current lines role contents new =
+new_current : (lines : ℕ) (role : Role) (epoch' : ℕ) (contents : Contents) → IsNew lines role epoch' contents → 0 < epoch' → epoch' < COUNTER_LIMIT
+    → IsLawful contents.current
+new_current lines role epoch' contents new some below =
     record {
       some = omega (arith, new.number);
       number = omega (arith, new.number);
       position = omega (arith, new.position);
       limit = omega (arith, new.cd, new.cp);
       room = omega (arith, new.cd);
-      some_epoch = omega (arith, new.epoch);
-      epoch = omega (arith, new.epoch);
+      some_epoch = omega (arith, new.epoch, some);
+      epoch = omega (arith, new.epoch, below);
+      newcomer = λ is. new.position;
       few = omega (arith, ap length new.gaps);
       gaps = subst (λ (gaps : List Gap). AreGaps 0 gaps contents.current.cp) (sym new.gaps) tt;
     }
@@ -38,13 +42,13 @@ new_current lines role contents new =
 pub some_version : (version : Version) → None ≡ Some version → ⊥
 some_version version e = cc
 
-pub new_lawful : (lines : ℕ) (role : Role) (contents : Contents) → IsNew lines role contents → MIN_LINES ≤ lines → lines ≤ MAX_LINES
-    → AreLawful contents
-new_lawful lines role contents new many few =
+pub new_lawful : (lines : ℕ) (role : Role) (epoch' : ℕ) (contents : Contents) → IsNew lines role epoch' contents → MIN_LINES ≤ lines → lines ≤ MAX_LINES
+    → 0 < epoch' → epoch' < COUNTER_LIMIT → AreLawful contents
+new_lawful lines role epoch' contents new many few some below =
     record {
       many = omega (arith, new.line_count, many);
       few = omega (arith, new.line_count, few);
-      current = new_current lines role contents new;
+      current = new_current lines role epoch' contents new some below;
       apart = λ i j v w differ is_v is_w. absurd (some_version v (sym (new.versions i) ∙ is_v));
       keyspace = [];
       lawful = is_keyspace-empty;
@@ -67,12 +71,21 @@ group_current contents group lawful asked room =
       room = below_limit (next_record contents.current group).cd (λ reached. room (inl reached));
       epoch = elim asked.epoch [
         | inl same ↦ omega (arith, same, lawful.epoch)
-        | inr later ↦ below_limit group.epoch (λ reached. room (inr (inr (inr (later.1, reached)))))
+        | inr later ↦ below_limit group.epoch (λ reached. room (inr (inr (inr (inl (later.1, reached))))))
       ];
     })
     refl refl (omega arith)
     (elim asked.epoch [ inl same ↦ omega (arith, same) | inr later ↦ omega (arith, later.1) ])
-    refl refl
+    refl refl (λ is. absurd (room (inr (inr (inr (inr is))))))
+
+-- of a record that comes out of it lawful, no counter has reached the limit
+pub not_exhausted : (floor : ℕ) (contents : Contents) (group : Group) (next : Record) → next ≡ next_record (with_floor floor contents.current) group → IsLawful next
+    → (contents.current.role ≡ Newcomer → ⊥) → Exhausts contents group → ⊥
+not_exhausted floor contents group next is lawful other (inl reached) = omega (arith, reached, ap (λ (q : Record). q.cd) is, lawful.room)
+not_exhausted floor contents group next is lawful other (inr (inl reached)) = omega (arith, reached, ap (λ (q : Record). q.position) is, lawful.position)
+not_exhausted floor contents group next is lawful other (inr (inr (inl reached))) = omega (arith, reached, ap (λ (q : Record). q.number) is, lawful.number)
+not_exhausted floor contents group next is lawful other (inr (inr (inr (inl later)))) = omega (arith, later.1, ap (λ (q : Record). q.epoch) is, lawful.epoch)
+not_exhausted floor contents group next is lawful other (inr (inr (inr (inr newcomer)))) = other newcomer
 
 -- no two live versions clash
 pub lawful_distinct : (contents : Contents) → AreLawful contents → AreDistinct contents.versions (entries_of contents)

@@ -5,6 +5,11 @@ pub mod ClashLemmas
 pub mod ClearingLemmas
 pub mod CommitAndFree
 pub mod Committing
+pub mod CommittingAllLemmas
+pub mod CopyDropping
+pub mod CopyEnding
+pub mod CopyLaws
+pub mod CopyStaging
 pub mod CountLemmas
 pub mod Covering
 pub mod CrashLemmas
@@ -20,6 +25,8 @@ pub mod FreeingLemmas
 pub mod GapLemmas
 pub mod GroupParts
 pub mod GroupSteps
+pub mod HalfClearing
+pub mod HalfLemmas
 pub mod InsideLemmas
 pub mod LawfulLemmas
 pub mod ListedEntries
@@ -40,6 +47,7 @@ pub mod RelocatingLemmas
 pub mod Reopened
 pub mod ReopenedContents
 pub mod ReopeningLaws
+pub mod RisingLemmas
 pub mod RoomLemmas
 pub mod ShownContents
 pub mod ShownLists

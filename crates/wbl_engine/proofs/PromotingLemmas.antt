@@ -1,5 +1,5 @@
 -- A record of a primary is written over an image at rest, and nothing else.
-use Rattle.std.proofs.Common.{◌≡◌, ℕ, ◌+◌, ◌<◌, ◌⊎◌, inl, inr, refl, arith}
+use Rattle.std.proofs.Common.{◌≡◌, ◌+◌, ◌<◌, ◌⊎◌, inl, inr, refl, ap, arith}
 use Rattle.pmem.specs.Device.{State}
 use Rattle.pmem.specs.Crash.{IsImage}
 use Rattle.pmem.specs.Runs.{LeavesOnly}
@@ -8,7 +8,7 @@ use Rattle.kv_types.specs.declared.refusal.Refusal.{Refusal}
 use Rattle.kv_types.specs.declared.refusal.Refusal.TheVariants.{Exhausted, Memory}
 use Rattle.model.specs.declared.image.TheConstants.{COUNTER_LIMIT}
 use Rattle.model.specs.declared.record.Record.{Record}
-use Rattle.model.specs.declared.record.Role.TheVariants.{Primary}
+use Rattle.model.specs.declared.record.Role.TheVariants.{Newcomer, Primary}
 use Rattle.model.specs.Group.{Contents, IsConsistent}
 use Rattle.model.specs.Image.{Image}
 use Rattle.wbl_record.specs.Current.{IsLawful}
@@ -21,7 +21,7 @@ use Rattle.wbl_engine.specs.Reopening.{ExhaustsReopening, RefusesReopening}
 use Rattle.wbl_engine.proofs.AnotherRecord.{another_fault, another_moments, another_rest, another_same}
 use Rattle.wbl_engine.proofs.LawfulLemmas.{below_limit, lawful_from}
 use Rattle.wbl_engine.proofs.ReopeningLaws.{lawful_refusal}
-use Rattle.wbl_engine.proofs.SuccessorLemmas.{lawful_later}
+use Rattle.wbl_engine.proofs.SuccessorLemmas.{lawful_later, primary_other}
 
 -- ---- the record
 
@@ -29,7 +29,13 @@ use Rattle.wbl_engine.proofs.SuccessorLemmas.{lawful_later}
 pub promoted_is_lawful : (r : Record) → IsLawful r → r.number + 1 < COUNTER_LIMIT → r.epoch + 1 < COUNTER_LIMIT → IsLawful (promoted_record r)
 promoted_is_lawful r lawful number epoch =
     lawful_later r (promoted_record r) lawful
-    (record { number = number; position = lawful.position; room = lawful.room; epoch = epoch }) refl lawful.limit (omega arith) (omega arith) refl refl
+    (record { number = number; position = lawful.position; room = lawful.room; epoch = epoch }) refl lawful.limit (omega arith) (omega arith) refl refl (λ is. absurd (primary_other is))
+
+-- of a record that comes out of it lawful, no counter has reached the limit
+pub not_promotion : (r next : Record) → next ≡ promoted_record r → IsLawful next → (r.role ≡ Newcomer → ⊥) → ExhaustsPromotion r → ⊥
+not_promotion r next is lawful other (inl reached) = omega (arith, reached, ap (λ (q : Record). q.number) is, lawful.number)
+not_promotion r next is lawful other (inr (inl reached)) = omega (arith, reached, ap (λ (q : Record). q.epoch) is, lawful.epoch)
+not_promotion r next is lawful other (inr (inr newcomer)) = other newcomer
 
 -- ---- the contents
 
@@ -63,7 +69,7 @@ pub lawful_promoted : (contents : Contents) → AreLawful contents → (Exhausts
 lawful_promoted contents are fits =
     lawful_from contents (promoted contents)
     (promoted_is_lawful contents.current are.current (below_limit (contents.current.number + 1) (λ reached. fits (inl reached)))
-    (below_limit (contents.current.epoch + 1) (λ reached. fits (inr reached))))
+    (below_limit (contents.current.epoch + 1) (λ reached. fits (inr (inl reached)))))
     refl refl (λ i. refl) are
 
 pub consistent_promoted : (contents : Contents) → IsConsistent contents → IsConsistent (promoted contents)

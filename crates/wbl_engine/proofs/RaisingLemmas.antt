@@ -1,6 +1,7 @@
 -- The floor is raised by a record of its own, and then what ended up to it is freed.
-use Rattle.std.proofs.Common.{◌≡◌, ◌≢◌, ◌⊎◌, ℕ, ◌+◌, ◌<◌, ◌≤◌, Bool, false, Option, Result, Ok, Err, inl, inr, List, [], ◌∷◌, max, refl, sym, ap, subst, ◌∙◌, arith}
+use Rattle.std.proofs.Common.{◌≡◌, ◌≢◌, ◌⊎◌, ℕ, ◌+◌, ◌<◌, ◌≤◌, false, None, Option, Result, Ok, Err, inl, inr, List, [], ◌∷◌, max, refl, sym, ap, subst, ◌∙◌, arith}
 use Rattle.std.specs.Prelude.{nat_lt, IfErr, IsErrOf, IsTrue}
+use Rattle.std.proofs.Math.Bool.{or-false}
 use Rattle.std.proofs.Math.Nat.{le-max_right, max-eq_left}
 use Rattle.std.proofs.lemmas.Bool.{cases_Bool, cases_lt, cond-true, cond-false, le-ltb, lt-ltb, ltb-true, both_ways}
 use Rattle.kv_types.specs.declared.place.EntryNo.{EntryNo}
@@ -20,7 +21,7 @@ use Rattle.model.specs.Image.{Image, Version, entries_of_lines}
 use Rattle.wbl_record.specs.Current.{IsLawful}
 use Rattle.wbl_record.specs.Record.{IsEitherRecord, IsRecorded, IsRecordFault, IsSucceeded}
 use Rattle.wbl_engine.specs.AtRest.{IsAtRest, contents_of}
-use Rattle.wbl_engine.specs.Contents.{Keeps, Same}
+use Rattle.wbl_engine.specs.Contents.{Same}
 use Rattle.wbl_engine.specs.Erasing.{erase_lines, erase_pairs}
 use Rattle.wbl_engine.specs.Freeing.{AreEnded, KeepsFreed, KeepsMap, KeepsWithoutSome, after_free}
 use Rattle.wbl_engine.specs.Raising.{ExhaustsRaising, IsRaised, under}
@@ -29,6 +30,7 @@ use Rattle.wbl_engine.proofs.AnotherRecord.{IsUnderEither, another, another_faul
 use Rattle.wbl_engine.proofs.CommitAndFree.{keeps_yet, same_is}
 use Rattle.wbl_engine.proofs.Erased.{rest_keeps}
 use Rattle.wbl_engine.proofs.FreeingLemmas.{ended_lines, freed_map, freed_moments, freed_rest, freed_same}
+use Rattle.wbl_engine.proofs.HalfLemmas.{none_ended}
 
 -- ---- the record
 
@@ -43,6 +45,7 @@ raised_is_lawful r number floor lawful up below =
       room = lawful.room;
       some_epoch = lawful.some_epoch;
       epoch = lawful.epoch;
+      newcomer = lawful.newcomer;
       few = lawful.few;
       gaps = lawful.gaps;
     }
@@ -234,6 +237,14 @@ module _ (floor : ℕ) (old new : Contents) (entries : List EntryNo) (low : floo
   pub stays_reached : ((old.current.floor < floor) × Same old new) ⊎ Same (after_free entries old) new → Same (after_free entries old) new
   stays_reached (inl rises) = absurd (omega (arith, rises.0, low))
   stays_reached (inr erased) = erased
+
+-- where no version is there, and the floor is reached, freeing changes nothing
+pub nothing_freed : (floor : ℕ) (contents : Contents) (entries : List EntryNo) → floor ≤ contents.current.floor → ((i : ℕ) → contents.versions i ≡ None)
+    → AreEnded contents entries → Same (after_free entries (floor_raised floor contents)) contents
+nothing_freed floor contents entries low none ended =
+    (subst (λ (there : Contents). Same (after_free entries there) contents) (sym (raised_reached floor contents low))
+    (subst (λ (es : List EntryNo). Same (after_free es contents) contents) (sym (none_ended contents entries none ended))
+    (record { current = refl; lines = refl; versions = λ i. refl; is_free = λ i. sym (or-false (contents.is_free i)) })))
 
 -- nor is a counter at its limit
 pub never_exhausts : (floor : ℕ) (r : Record) → floor ≤ r.floor → ¬ ExhaustsRaising floor r

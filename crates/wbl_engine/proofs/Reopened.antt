@@ -38,6 +38,7 @@ open_lawful r lawful room limit number =
       room = limit;
       some_epoch = lawful.some_epoch;
       epoch = lawful.epoch;
+      newcomer = lawful.newcomer;
       few = omega (arith, length-append r.gaps.items (open_gap r ∷ []), room);
       gaps = gaps_more 0 r.gaps.items r.cp (open_gap r) r.cd (omega arith) (omega arith) (omega (arith, lawful.limit)) (omega (arith, lawful.limit)) lawful.gaps;
     }

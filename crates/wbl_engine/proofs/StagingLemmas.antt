@@ -140,3 +140,26 @@ parts_flushed {a} {b} {c} parts i part below is run more =
 -- the default for an index past the end of a list of entries
 abbrev pub no_entry : EntryNo
 no_entry = record { 0 = 0 }
+
+-- ---- a loop over puts
+
+pub all_item : {X : Type 0} (P : X → Type 0) (xs : List X) (i : ℕ) (x : X) → i < length xs → x ≡ get_or xs i x → AllByRecursion P xs → P x
+all_item P xs i x below is all = subst P (sym is) (all_at P xs i x below all)
+
+pub all_next : {X : Type 0} (P : X → Type 0) (xs : List X) (i : ℕ) (x : X) → i < length xs → x ≡ get_or xs i x → AllByRecursion P (take i xs) → P x
+    → AllByRecursion P (take (i + 1) xs)
+all_next P xs i x below is prefix one =
+    subst (AllByRecursion P) (sym (take-item xs i x below is)) (all-both P (take i xs) (x ∷ []) prefix (one, tt))
+
+pub next_put_stored : {a b c : State} (stamp position : ℕ) (puts : List Put) (i : ℕ) (put : Put) → i < length puts → put ≡ get_or puts i put
+    → Runs a b (stores (puts_pairs stamp position (take i puts)) a.words) → Runs b c (stores (put_pairs stamp position put) b.words)
+    → Runs a c (stores (puts_pairs stamp position (take (i + 1) puts)) a.words)
+next_put_stored {a} {b} {c} stamp position puts i put below is run more =
+    stores_more (puts_pairs stamp position (take (i + 1) puts)) (puts_pairs stamp position (take i puts)) (put_pairs stamp position put)
+    (flat_map-item (put_pairs stamp position) puts i put below is) run more
+
+pub next_put_flushed : {a b c : State} (puts : List Put) (i : ℕ) (put : Put) → i < length puts → put ≡ get_or puts i put
+    → Runs a b (flushes (puts_lines (take i puts)) a.words) → Runs b c (flushes (put_lines put) b.words)
+    → Runs a c (flushes (puts_lines (take (i + 1) puts)) a.words)
+next_put_flushed {a} {b} {c} puts i put below is run more =
+    flushes_more (puts_lines (take (i + 1) puts)) (puts_lines (take i puts)) (put_lines put) (flat_map-item put_lines puts i put below is) run more

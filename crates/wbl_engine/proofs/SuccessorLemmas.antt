@@ -4,10 +4,12 @@ use Rattle.model.specs.declared.group.Part.{Part}
 use Rattle.model.specs.declared.image.TheConstants.{COUNTER_LIMIT, STAMP_WINDOW}
 use Rattle.model.specs.declared.record.Gap.{Gap}
 use Rattle.model.specs.declared.record.Record.{Record}
+use Rattle.model.specs.declared.record.Role.TheVariants.{Newcomer, Primary, Standby}
 use Rattle.model.specs.Layout.{max_gaps}
 use Rattle.model.specs.declared.group.Group.{Group}
 use Rattle.model.specs.Floor.{with_floor}
 use Rattle.model.specs.Group.{last_position, next_record}
+use Rattle.model.specs.Image.{role_number}
 use Rattle.wbl_record.specs.Current.{AreGaps, IsLawful}
 use Rattle.wbl_engine.specs.Committing.{at_floor}
 use Rattle.wbl_engine.proofs.CountLemmas.{AreGaps-later}
@@ -19,10 +21,18 @@ pub record AreBelowLimit (r : Record) : Type 0 where
   pub room : r.cd < COUNTER_LIMIT
   pub epoch : r.epoch < COUNTER_LIMIT
 
+-- roles that are none of a newcomer's
+pub primary_other : Primary ≡ Newcomer → ⊥
+primary_other is = let same : 1 ≡ 3 = ap role_number is in omega (arith, same)
+
+pub standby_other : Standby ≡ Newcomer → ⊥
+standby_other is = let same : 2 ≡ 3 = ap role_number is in omega (arith, same)
+
 -- A later record of the same layout with the same gaps obeys the rules.
 pub lawful_later : (r next : Record) → IsLawful r → AreBelowLimit next → next.number ≡ r.number + 1 → next.cd ≡ next.cp + 1 + STAMP_WINDOW
-    → r.cp ≤ next.cp → r.epoch ≤ next.epoch → next.gaps.items ≡ r.gaps.items → next.layout ≡ r.layout → IsLawful next
-lawful_later r next lawful below number limit up epoch gaps layout =
+    → r.cp ≤ next.cp → r.epoch ≤ next.epoch → next.gaps.items ≡ r.gaps.items → next.layout ≡ r.layout
+    → (next.role ≡ Newcomer → next.position ≡ 0) → IsLawful next
+lawful_later r next lawful below number limit up epoch gaps layout newcomer =
     record {
       some = omega (arith, number);
       number = below.number;
@@ -31,6 +41,7 @@ lawful_later r next lawful below number limit up epoch gaps layout =
       room = below.room;
       some_epoch = omega (arith, lawful.some_epoch, epoch);
       epoch = below.epoch;
+      newcomer = newcomer;
       few = omega (arith, ap length gaps, ap max_gaps layout, lawful.few);
       gaps = subst (λ (gs : List Gap). AreGaps 0 gs next.cp) (sym gaps) (AreGaps-later 0 r.gaps.items r.cp next.cp up lawful.gaps);
     }

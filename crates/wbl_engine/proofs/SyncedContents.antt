@@ -4,7 +4,6 @@ use Rattle.pmem.specs.Device.{State, moment}
 use Rattle.pmem.specs.Floor.{MayBeLeft}
 use Rattle.pmem.proofs.Leaving.{MayLeave-now}
 use Rattle.model.specs.Group.{Contents}
-use Rattle.model.specs.Image.{Image}
 use Rattle.wbl_engine.specs.Contents.{IsDurable, IsDurableFrom, SyncedIsDurable}
 
 pub synced_durable : SyncedIsDurable
@@ -18,3 +17,6 @@ durable_from floor device contents e durable image may =
 -- what is made of two propositions is the same, whatever proves them
 pub same_of_props : {A B E : Type 0} (make : A → B → E) (a a' : A) (b b' : B) → IsProp A → IsProp B → make a b ≡ make a' b'
 same_of_props make a a' b b' one other = λ i. make (one a a' i) (other b b' i)
+
+pub same_of_three : {A B C E : Type 0} (make : A → B → C → E) (a a' : A) (b b' : B) (c c' : C) → IsProp A → IsProp B → IsProp C → make a b c ≡ make a' b' c'
+same_of_three make a a' b b' c c' one other third = λ i. make (one a a' i) (other b b' i) (third c c' i)

@@ -57,11 +57,25 @@ pub record IsAtRest (r : Record) (d : State) : Type 0 where
   pub recorded : (image : Image) → IsImage d.words image → HasRecord d.lines r image
   pub certain : (word : ℕ) → Matters r d.lines (image_of d.words) word → Only (d.words word) (image_of d.words word)
 
+-- The same, but that stamps may be there which no record has yet, as they are while parts of a copy are staged.
+pub record IsQuiet (r : Record) (d : State) : Type 0 where
+  pub many : MIN_LINES ≤ d.lines
+  pub few : d.lines ≤ MAX_LINES
+  pub lawful : IsLawful r
+  pub superblock : HasSuperblock r.layout d.lines (image_of d.words)
+  pub begins : (i : ℕ) → i < entries_of_lines r.layout d.lines → image_of d.words (entry_word i 0) < r.cd
+  pub ends : (i : ℕ) → i < entries_of_lines r.layout d.lines → image_of d.words (entry_word i 1) < r.cd
+  pub entries : (i : ℕ) → i < entries_of_lines r.layout d.lines → IsTrue (counts r (image_of d.words (entry_word i 0))) → IsEntry d.lines (image_of d.words) i
+  pub positions : (i : ℕ) → i < entries_of_lines r.layout d.lines → IsTrue (counts r (image_of d.words (entry_word i 0)))
+      → image_of d.words (entry_word i 2) ≤ r.position
+  pub recorded : (image : Image) → IsImage d.words image → HasRecord d.lines r image
+  pub certain : (word : ℕ) → Matters r d.lines (image_of d.words) word → Only (d.words word) (image_of d.words word)
+
 HasWords-prop : (image : Image) (first : ℕ) (values : List ℕ) → IsProp (HasWords image first values)
 HasWords-prop image first [] = hlevel props
 HasWords-prop image first (value ∷ values) = hlevel (props, HasWords-prop image (first + 1) values)
 
-HasRecord-prop : (lines : ℕ) (r : Record) (image : Image) → IsProp (HasRecord lines r image)
+pub HasRecord-prop : (lines : ℕ) (r : Record) (image : Image) → IsProp (HasRecord lines r image)
 HasRecord-prop lines r image = hlevel (props, HasWords-prop)
 
 -- a kind is not both that of a string and that of a field
@@ -81,19 +95,19 @@ IsKind-prop image i (inr field) (inr other) = ap inr (one field other)
     one : IsProp (image (entry_word i 5) ≡ FIELD_KIND)
     one = hlevel props
 
-IsEntry-prop : (lines : ℕ) (image : Image) (i : ℕ) → IsProp (IsEntry lines image i)
+pub IsEntry-prop : (lines : ℕ) (image : Image) (i : ℕ) → IsProp (IsEntry lines image i)
 IsEntry-prop lines image i = hlevel (props, IsKind-prop)
 
 AreGaps-prop : (low : ℕ) (gaps : List Gap) (cp : ℕ) → IsProp (AreGaps low gaps cp)
 AreGaps-prop low [] cp = hlevel props
 AreGaps-prop low (gap ∷ gaps) cp = hlevel (props, AreGaps-prop gap.last gaps cp)
 
-IsLawful-prop : (r : Record) → IsProp (IsLawful r)
+pub IsLawful-prop : (r : Record) → IsProp (IsLawful r)
 IsLawful-prop r = hlevel (props, AreGaps-prop)
 
 -- it has at most one proof
-pub at_rest_prop : (faulted : Bool) (r : Record) (d : State) → IsProp (faulted ≡ false → IsAtRest r d)
-at_rest_prop faulted r d = hlevel (props, HasRecord-prop, IsEntry-prop, IsLawful-prop)
+pub at_rest_prop : (faulted copying : Bool) (r : Record) (d : State) → IsProp (faulted ≡ false → copying ≡ false → IsAtRest r d)
+at_rest_prop faulted copying r d = hlevel (props, HasRecord-prop, IsEntry-prop, IsLawful-prop)
 
 -- nor has this more than one: the floor of the device is the present moment
 pub synced_prop : (faulted : Bool) (floor now : ℕ) → IsProp (faulted ≡ false → floor ≡ now)

@@ -6,8 +6,8 @@ use Rattle.pmem.specs.Floor.{MayBeLeft}
 use Rattle.model.specs.declared.group.Group.{Group}
 use Rattle.model.specs.declared.image.TheConstants.{COUNTER_LIMIT, STAMP_WINDOW}
 use Rattle.model.specs.declared.layout.TheConstants.{LAYOUT}
-use Rattle.model.specs.declared.record.TheConstants.{FIRST_EPOCH}
 use Rattle.model.specs.declared.record.Role.{Role}
+use Rattle.model.specs.declared.record.Role.TheVariants.{Newcomer}
 use Rattle.model.specs.Image.{Image, HasSuperblock, HasRecord, version_at}
 use Rattle.model.specs.Group.{Contents, entries_of, next_record}
 use Rattle.heap_layout.specs.Version.{IsUnder}
@@ -39,7 +39,7 @@ pub record Same (old new : Contents) : Type 0 where
   pub versions : (i : ℕ) → new.versions i ≡ old.versions i
   pub is_free : (i : ℕ) → new.is_free i ≡ old.is_free i
 
--- a counter of the record would reach the limit, which the epoch does only where it rises
+-- a counter of the record would reach the limit, which the epoch does only where it rises; a newcomer's position is not to rise at all
 abbrev pub Exhausts : Contents → Group → Type 0
 Exhausts contents group =
     let next = next_record contents.current group in
@@ -47,15 +47,16 @@ Exhausts contents group =
     ⊎ (COUNTER_LIMIT ≤ next.position)
     ⊎ (COUNTER_LIMIT ≤ next.number)
     ⊎ ((contents.current.epoch < next.epoch) × (COUNTER_LIMIT ≤ next.epoch))
+    ⊎ (contents.current.role ≡ Newcomer)
 
 -- the contents of a new image
-pub record IsNew (lines : ℕ) (role : Role) (contents : Contents) : Type 0 where
+pub record IsNew (lines : ℕ) (role : Role) (epoch' : ℕ) (contents : Contents) : Type 0 where
   pub layout : contents.current.layout ≡ LAYOUT
   pub number : contents.current.number ≡ 1
   pub position : contents.current.position ≡ 0
   pub cp : contents.current.cp ≡ 0
   pub cd : contents.current.cd ≡ 1 + STAMP_WINDOW
-  pub epoch : contents.current.epoch ≡ FIRST_EPOCH
+  pub epoch : contents.current.epoch ≡ epoch'
   pub role_is : contents.current.role ≡ role
   pub gaps : contents.current.gaps.items ≡ []
   pub floor : contents.current.floor ≡ 0

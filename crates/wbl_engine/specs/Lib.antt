@@ -1,6 +1,8 @@
 pub mod AtRest
 pub mod Committing
+pub mod CommittingAll
 pub mod Contents
+pub mod Copying
 pub mod Erasing
 pub mod Fencing
 pub mod Formatting

@@ -2,6 +2,7 @@
 use Rattle.std.specs.Prelude.{◌≡◌, ◌⊎◌, ℕ, ◌+◌, ◌<◌, ◌≤◌}
 use Rattle.model.specs.declared.image.TheConstants.{COUNTER_LIMIT}
 use Rattle.model.specs.declared.record.Record.{Record}
+use Rattle.model.specs.declared.record.Role.TheVariants.{Newcomer}
 use Rattle.model.specs.Group.{Contents}
 
 -- the second record is the first, or the next one with a higher floor
@@ -12,6 +13,6 @@ IsRaised r next = (next ≡ r) ⊎ ((r.floor < next.floor) × (next ≡ record r
 abbrev pub under : Record → Contents → Contents
 under r contents = record contents { current = r }
 
--- the floor rises, and the number of the record would reach the limit
+-- the floor rises, and the number of the record would reach the limit, or the record is a newcomer's, of which nothing ends
 abbrev pub ExhaustsRaising : ℕ → Record → Type 0
-ExhaustsRaising floor r = (r.floor < floor) × (COUNTER_LIMIT ≤ r.number + 1)
+ExhaustsRaising floor r = (r.floor < floor) × ((COUNTER_LIMIT ≤ r.number + 1) ⊎ (r.role ≡ Newcomer))

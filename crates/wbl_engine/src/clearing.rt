@@ -1,13 +1,14 @@
 //! A gap leaves the record once no stamp in it is left on the device.
-ghost use Rattle.std.specs.Prelude.{◌≡◌, ◌⊎◌, ◌+◌, ◌<◌, ◌≤◌, ◌++◌, ◌∷◌, [], ◌↔◌, if◌then◌else◌, length, IsTrue, IfOk, OnOk, OnErr};
+ghost use Rattle.std.specs.Prelude.{◌≡◌, ◌⊎◌, ℕ, true, ◌+◌, ◌<◌, ◌≤◌, ◌++◌, ◌∷◌, [], ◌↔◌, if◌then◌else◌, length, IsTrue, IfOk, OnOk, OnErr};
 ghost use Rattle.pmem.specs.Device.{moment};
 ghost use Rattle.pmem.specs.Crash.{image_of};
 ghost use Rattle.pmem.specs.Runs.{LeavesOnly};
 ghost use Rattle.model.specs.declared.image.TheConstants.{COUNTER_LIMIT, MIN_LINES};
 ghost use Rattle.model.specs.Image.{entries_of_lines};
 ghost use Rattle.wbl_record.specs.Current.{IsLawful};
-ghost use Rattle.wbl_engine.specs.AtRest.{IsAtRest, contents_of};
+ghost use Rattle.wbl_engine.specs.AtRest.{IsAtRest, IsQuiet, contents_of};
 ghost use Rattle.wbl_engine.specs.Contents.{Keeps};
+ghost use Rattle.wbl_engine.specs.Copying.{IsHalf, staged_of};
 ghost use Rattle.wbl_engine.specs.Erasing.{oldest_gap, stamped_below};
 ghost use Rattle.wbl_engine.specs.Freeing.{Clears, KeepsVersions, record_after_clearing, cleared_contents};
 
@@ -96,14 +97,18 @@ pub fn clear_oldest<P: Pmem>(
     current: &Record,
     stamped: &Stamped,
 ) -> Result<Record, Fault>
-    requires rest { IsAtRest current.now (P.state device.old) }
+    requires quiet { IsQuiet current.now (P.state device.old) }
     requires some { 0 < length current.now.gaps.items }
     requires room { current.now.number + 1 < COUNTER_LIMIT }
     requires begins { stamped.now.begins.items
         ≡ stamped_below (oldest_gap current.now) (image_of (P.state device.old).words) 0 (entries_of_lines current.now.layout (P.state device.old).lines) }
     requires ends { stamped.now.ends.items
         ≡ stamped_below (oldest_gap current.now) (image_of (P.state device.old).words) 1 (entries_of_lines current.now.layout (P.state device.old).lines) }
-    ensures rest { IfOk result (λ next. IsAtRest next (P.state device.new)) }
+    ensures rest { IsAtRest current.now (P.state device.old) → IfOk result (λ next. IsAtRest next (P.state device.new)) }
+    // what is staged of a copy stays
+    ensures half { IsHalf current.now (P.state device.old) → IfOk result (λ next. IsHalf next (P.state device.new)) }
+    ensures staged { IsHalf current.now (P.state device.old) → IfOk result (λ next. (i : ℕ)
+        → staged_of true next (P.state device.new) i ≡ staged_of true current.now (P.state device.old) i) }
     ensures clears { IfOk result (λ next.
         Clears (contents_of current.now (P.state device.old)) stamped.now.begins.items (contents_of next (P.state device.new))) }
     ensures sound { OnOk result ((P.state device.new).failures ≡ (P.state device.old).failures) }

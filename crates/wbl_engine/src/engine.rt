@@ -1,12 +1,15 @@
 //! The engine: a device with an image, and the image's current record.
-ghost use Rattle.std.specs.Prelude.{◌≡◌, ◌↔◌, false, IsTrue};
+ghost use Rattle.std.specs.Prelude.{◌≡◌, ◌↔◌, true, false, IsTrue};
 ghost use Rattle.pmem.specs.Device.{moment};
 ghost use Rattle.wbl_engine.specs.AtRest.{IsAtRest, at_rest_prop, synced_prop};
+ghost use Rattle.wbl_engine.specs.Copying.{IsHalf, half_prop};
 
 use crate::clearing::{clear_oldest, has_no_gap, is_last, oldest_gap, stamped_in};
 use crate::commit::commit_group;
+use crate::commit_all::{commit_groups, exhausts_one};
 use crate::commit_and_free::commit_and_erase;
 use crate::committed::Committed;
+use crate::copying::{copied_record, end_copy, erase_copy, stage_part, staged_in};
 use crate::durable::Durable;
 use crate::format::{first_record, format_device};
 use crate::freeing::{Freed, extent_of, freed_by, named_extents};
@@ -19,7 +22,7 @@ use crate::restarting::Restarting;
 use crate::successor::next_record;
 use heap_layout::Versions;
 use kv_types::{EntryNo, Extent, Refusal};
-use model::{Group, Layout, MAX_LINES, MIN_LINES, Part, Record, Role};
+use model::{Group, Layout, MAX_LINES, MIN_LINES, Part, Put, Record, Role};
 use pmem::{Crashing, Fault, Pmem};
 use std::alloc::{AllocError, Global};
 
@@ -31,7 +34,10 @@ pub struct WblEngine<P: Pmem> {
     current: Record,
     /// A fence or a sync failed: the image has to be reopened.
     faulted: bool,
-    ghost at_rest: { faulted ≡ false → IsAtRest current (P.state device) } by { at_rest_prop faulted current (P.state device) },
+    /// Parts of a copy are staged: no record is written but the one that ends the copy.
+    copying: bool,
+    ghost at_rest: { faulted ≡ false → copying ≡ false → IsAtRest current (P.state device) } by { at_rest_prop faulted copying current (P.state device) },
+    ghost half: { faulted ≡ false → copying ≡ true → IsHalf current (P.state device) } by { half_prop faulted copying current (P.state device) },
     // no call answers before what it wrote is durable
     ghost synced: { faulted ≡ false → P.floor device ≡ moment (P.state device) } by { synced_prop faulted (P.floor device) (moment (P.state device)) },
 }
@@ -39,7 +45,7 @@ pub struct WblEngine<P: Pmem> {
 impl<P: Pmem> WblEngine<P> {
     ghost use Rattle.std.specs.Prelude.{◌≡◌, ◌⊎◌, ◌<◌, false, IfOk, IfErr, MatchResult};
     ghost use Rattle.pmem.specs.Runs.{LeavesOnly};
-    ghost use Rattle.model.specs.declared.image.TheConstants.{MIN_LINES, MAX_LINES};
+    ghost use Rattle.model.specs.declared.image.TheConstants.{COUNTER_LIMIT, MIN_LINES, MAX_LINES};
     ghost use Rattle.wbl_engine.specs.Contents.{IsDurable, IsNew};
     ghost use Rattle.wbl_engine.specs.Formatting.{IsFormatting};
     ghost use Rattle.std.specs.Prelude.{ℕ, Some, Err};
@@ -51,16 +57,19 @@ impl<P: Pmem> WblEngine<P> {
     ghost use Rattle.wbl_engine.specs.Lawful.{IsUndamaged};
     ghost use Rattle.wbl_engine.specs.Reopening.{IsShown, RefusesReopening, Reopens, StaysReadable};
 
-    /// Formats a device for this role. `WrongSize` if it has fewer than 4,096 lines or more than 2^31, with nothing changed; `Fault` if a
+    /// Formats a device for this role, under this epoch. `WrongSize` if it has fewer than 4,096 lines or more than 2^31, with nothing changed; `Fault` if a
     /// fence failed. A refusal hands the device back. It allocates no memory.
     ///
     /// At any moment a crash leaves an image from before, the new one whole, or one without the magic.
-    pub fn format(device: P, role: Role) -> Result<WblEngine<P>, (Refusal, P)>
-        ensures new { IfOk result (λ engine. IsNew (P.state device).lines role (⟦<WblEngine<P> as Durable>⟧.contents engine)) }
+    pub fn format(device: P, role: Role, epoch: u64) -> Result<WblEngine<P>, (Refusal, P)>
+        requires some_epoch { 0 < epoch }
+        requires epoch { epoch < COUNTER_LIMIT }
+        ensures new { IfOk result (λ engine. IsNew (P.state device).lines role epoch (⟦<WblEngine<P> as Durable>⟧.contents engine)) }
         ensures durable { IfOk result (λ engine.
             IsDurable (⟦<WblEngine<P> as Durable>⟧.device engine) (⟦<WblEngine<P> as Durable>⟧.contents engine)) }
         ensures sound { IfOk result (λ engine. (⟦<WblEngine<P> as Durable>⟧.is_faulted engine ≡ false)
             × ((⟦<WblEngine<P> as Durable>⟧.device engine).failures ≡ (P.state device).failures)) }
+        ensures idle { IfOk result (λ engine. ⟦<WblEngine<P> as Durable>⟧.is_copying engine ≡ false) }
         ensures causes { IfErr result (λ refused. (refused.0 ≡ Refusal.Fault) ⊎ (refused.0 ≡ Refusal.WrongSize)) }
         ensures size { IfErr result (λ refused. refused.0 ≡ Refusal.WrongSize → refused.1 ≡ device) }
         ensures sized { IfErr result (λ refused. refused.0 ≡ Refusal.WrongSize
@@ -70,20 +79,21 @@ impl<P: Pmem> WblEngine<P> {
         ensures fault { IfErr result (λ refused. refused.0 ≡ Refusal.Fault → (P.state device).failures < (P.state refused.1).failures) }
         ensures moments { MatchResult result
             (λ engine. LeavesOnly (P.state device) (⟦<WblEngine<P> as Durable>⟧.device engine)
-            (IsFormatting (P.state device).words (P.state device).lines role))
-            (λ refused. LeavesOnly (P.state device) (P.state refused.1) (IsFormatting (P.state device).words (P.state device).lines role)) }
+            (IsFormatting (P.state device).words (P.state device).lines role epoch))
+            (λ refused. LeavesOnly (P.state device) (P.state refused.1) (IsFormatting (P.state device).words (P.state device).lines role epoch)) }
     {
         let lines = device.lines();
         if lines < MIN_LINES || MAX_LINES < lines {
             return Err((Refusal::WrongSize, device));
         }
         let mut device = device;
-        let current = first_record(role);
+        let current = first_record(role, epoch);
         match format_device(&mut device, &current) {
             Ok(()) => Ok(WblEngine {
                 device,
                 current,
                 faulted: false,
+                copying: false,
             }),
             Err(Fault) => Err((Refusal::Fault, device)),
         }
@@ -114,6 +124,7 @@ impl<P: Pmem> WblEngine<P> {
         ensures durable { IfOk result (λ o. IsDurable (⟦<WblEngine<P> as Durable>⟧.device o.0) (⟦<WblEngine<P> as Durable>⟧.contents o.0)) }
         ensures sound { IfOk result (λ o. (⟦<WblEngine<P> as Durable>⟧.is_faulted o.0 ≡ false)
             × ((⟦<WblEngine<P> as Durable>⟧.device o.0).failures ≡ (P.state device).failures)) }
+        ensures idle { IfOk result (λ o. ⟦<WblEngine<P> as Durable>⟧.is_copying o.0 ≡ false) }
         ensures refused { IfErr result (λ refused. (refused.0 ≡ Refusal.Fault)
             ⊎ (RefusesReopening layout (P.state device).lines (image_of (P.state device).words) role refused.0 × (refused.1 ≡ device))) }
         ensures fault { IfErr result (λ refused. refused.0 ≡ Refusal.Fault → (P.state device).failures < (P.state refused.1).failures) }
@@ -133,6 +144,7 @@ impl<P: Pmem> WblEngine<P> {
                     device,
                     current,
                     faulted: false,
+                    copying: false,
                 },
                 versions,
             )),
@@ -146,6 +158,7 @@ impl<P: Pmem> Durable for WblEngine<P> {
 
     ghost use Rattle.std.proofs.Common.{refl};
     ghost use Rattle.wbl_engine.specs.AtRest.{contents_of};
+    ghost use Rattle.wbl_engine.specs.Copying.{idle, staged_of};
 
     ghost device = { λ engine. P.state engine.device };
 
@@ -155,13 +168,24 @@ impl<P: Pmem> Durable for WblEngine<P> {
 
     ghost is_faulted = { λ engine. engine.faulted };
 
+    ghost is_copying = { λ engine. engine.copying };
+
+    ghost staged = { λ engine. staged_of engine.copying engine.current (P.state engine.device) };
+
     ghost sized = { λ engine. refl };
+
+    ghost idle = { λ engine. idle engine.current (P.state engine.device) engine.copying };
+
+    ghost copies = { λ engine sound copying. (engine.half sound copying).newcomer };
 
     ghost synced = { λ engine. engine.synced };
 
     fn commit(&mut self, group: &Group, floor: u64) -> Result<Committed, Refusal> {
         if self.faulted {
             return Err(Refusal::Fault);
+        }
+        if self.copying {
+            return Err(Refusal::Exhausted);
         }
         let Some(next) = next_record(&self.current, group, floor) else {
             return Err(Refusal::Exhausted);
@@ -179,6 +203,23 @@ impl<P: Pmem> Durable for WblEngine<P> {
         }
     }
 
+    fn commit_all(&mut self, groups: &[Group], floor: u64) -> Result<Committed, Refusal> {
+        if self.faulted {
+            return Err(Refusal::Fault);
+        }
+        if groups.is_empty() {
+            return Ok(Committed::at(self.current.position));
+        }
+        if self.copying || exhausts_one(&self.current, groups, floor) {
+            return Err(Refusal::Exhausted);
+        }
+        let Ok(()) = commit_groups(&mut self.device, groups, &mut self.current, floor) else {
+            self.faulted = true;
+            return Err(Refusal::Fault);
+        };
+        Ok(Committed::at(self.current.position))
+    }
+
     fn commit_and_free(
         &mut self,
         group: &Group,
@@ -187,6 +228,9 @@ impl<P: Pmem> Durable for WblEngine<P> {
     ) -> Result<Committed, Refusal> {
         if self.faulted {
             return Err(Refusal::Fault);
+        }
+        if self.copying {
+            return Err(Refusal::Exhausted);
         }
         let Some(next) = next_record(&self.current, group, floor) else {
             return Err(Refusal::Exhausted);
@@ -204,14 +248,14 @@ impl<P: Pmem> Durable for WblEngine<P> {
         }
     }
 
-    fn relocate(&mut self, part: &Part) -> Result<(), Refusal> {
+    fn relocate(&mut self, parts: &[Part]) -> Result<(), Refusal> {
         if self.faulted {
             return Err(Refusal::Fault);
         }
-        let Some(next) = relocated_record(&self.current) else {
+        let Some(next) = relocated_record(&self.current, parts) else {
             return Err(Refusal::Exhausted);
         };
-        let Ok(()) = commit_relocation(&mut self.device, part, &self.current, &next) else {
+        let Ok(()) = commit_relocation(&mut self.device, parts, &self.current, &next) else {
             self.faulted = true;
             return Err(Refusal::Fault);
         };
@@ -226,6 +270,10 @@ impl<P: Pmem> Durable for WblEngine<P> {
         let Some(next) = raised_record(&self.current, floor) else {
             return Err(Refusal::Exhausted);
         };
+        if self.copying {
+            // a newcomer has no version, so none of its entries has ended
+            return Ok(Freed::none(alloc));
+        }
         let freed = freed_by(alloc, &self.device, entries)?;
         let Ok(()) = free_under(&mut self.device, entries, &self.current, &next) else {
             self.faulted = true;
@@ -266,6 +314,9 @@ impl<P: Pmem> Durable for WblEngine<P> {
         if self.faulted {
             return Err(Refusal::Fault);
         }
+        if self.copying {
+            return Err(Refusal::Exhausted);
+        }
         let Some(next) = promoted_record(&self.current) else {
             return Err(Refusal::Exhausted);
         };
@@ -275,6 +326,51 @@ impl<P: Pmem> Durable for WblEngine<P> {
         };
         self.current = next;
         Ok(())
+    }
+
+    fn stage(&mut self, puts: &[Put], position: u64) -> Result<(), Refusal> {
+        if self.faulted {
+            return Err(Refusal::Fault);
+        }
+        let Ok(()) = stage_part(&mut self.device, puts, &self.current, position) else {
+            self.faulted = true;
+            return Err(Refusal::Fault);
+        };
+        self.copying = true;
+        Ok(())
+    }
+
+    fn commit_staged(&mut self, position: u64) -> Result<Committed, Refusal> {
+        if self.faulted {
+            return Err(Refusal::Fault);
+        }
+        let Some(next) = copied_record(&self.current, position) else {
+            return Err(Refusal::Exhausted);
+        };
+        let Ok(()) = end_copy(&mut self.device, &self.current, &next) else {
+            self.faulted = true;
+            return Err(Refusal::Fault);
+        };
+        self.current = next;
+        self.copying = false;
+        Ok(Committed::at(position))
+    }
+
+    fn drop_staged(&mut self, alloc: Global) -> Result<Freed, Refusal> {
+        if self.faulted {
+            return Err(Refusal::Fault);
+        }
+        if !self.copying {
+            return Ok(Freed::none(alloc));
+        }
+        let freed = staged_in(alloc, &self.device, &self.current)?;
+        let entries = freed.entries.as_slice();
+        let Ok(()) = erase_copy(&mut self.device, entries, &self.current) else {
+            self.faulted = true;
+            return Err(Refusal::Fault);
+        };
+        self.copying = false;
+        Ok(freed)
     }
 
     fn extent_of(&self, entry: EntryNo) -> Extent {
@@ -306,6 +402,7 @@ impl<P: Pmem> Durable for WblEngine<P> {
             device,
             current: _current,
             faulted: _,
+            copying: _,
         } = self;
         device
     }
@@ -345,6 +442,7 @@ impl<P: Crashing> Restarting for WblEngine<P> {
             Ok((current, versions)) => {
                 self.current = current;
                 self.faulted = false;
+                self.copying = false;
                 Ok(versions)
             }
             Err(refusal) => {

@@ -2,13 +2,13 @@
 ghost use Rattle.std.specs.Prelude.{◌≡◌, ◌+◌, ◌*◌, ◌<◌, ◌≤◌, replicate, OnOk, OnErr};
 ghost use Rattle.pmem.specs.Device.{moment};
 ghost use Rattle.pmem.specs.Runs.{LeavesOnly, Runs, Staged, StageFailed, stores, pairs_from, lines_from};
-ghost use Rattle.model.specs.declared.image.TheConstants.{MIN_LINES, MAX_LINES};
+ghost use Rattle.model.specs.declared.image.TheConstants.{COUNTER_LIMIT, MIN_LINES, MAX_LINES};
 ghost use Rattle.model.specs.Image.{first_extent_line};
 ghost use Rattle.wbl_engine.specs.AtRest.{IsAtRest};
 ghost use Rattle.wbl_engine.specs.Formatting.{first_record, new_pairs, IsFormatting};
 
 use arrayvec::ArrayVec;
-use model::{FIRST_EPOCH, LAYOUT, LINE_WORDS, Layout, MAGIC, Record, Role, STAMP_WINDOW};
+use model::{LAYOUT, LINE_WORDS, Layout, MAGIC, Record, Role, STAMP_WINDOW};
 use pmem::{Fault, Pmem, flush_lines, persist, persist_durably, store_words};
 use wbl_record::words_of;
 
@@ -18,14 +18,16 @@ use wbl_record::words_of;
 pub fn format_device<P: Pmem>(device: &mut P, first: &Record) -> Result<(), Fault>
     requires many { MIN_LINES ≤ (P.state device.old).lines }
     requires few { (P.state device.old).lines ≤ MAX_LINES }
-    requires first { first.now ≡ first_record first.now.role }
+    requires first { first.now ≡ first_record first.now.role first.now.epoch }
+    requires some_epoch { 0 < first.now.epoch }
+    requires epoch { first.now.epoch < COUNTER_LIMIT }
     ensures rest { OnOk result (IsAtRest first.now (P.state device.new)) }
     ensures lines { (P.state device.new).lines ≡ (P.state device.old).lines }
     ensures synced { OnOk result (P.floor device.new ≡ moment (P.state device.new)) }
     ensures sound { OnOk result ((P.state device.new).failures ≡ (P.state device.old).failures) }
     ensures fault { OnErr result ((P.state device.old).failures < (P.state device.new).failures) }
     ensures moments { LeavesOnly (P.state device.old) (P.state device.new)
-        (IsFormatting (P.state device.old).words (P.state device.old).lines first.now.role) }
+        (IsFormatting (P.state device.old).words (P.state device.old).lines first.now.role first.now.epoch) }
 {
     persist(device, &[(0, 0)], &[0])?;
     write_new(device, first)?;
@@ -64,8 +66,8 @@ fn clear_words<P: Pmem>(device: &mut P, first: u64, count: u64)
 }
 
 /// The record of a new image.
-pub fn first_record(role: Role) -> Record
-    ensures { result ≡ first_record role }
+pub fn first_record(role: Role, epoch: u64) -> Record
+    ensures { result ≡ first_record role epoch }
 {
     Record {
         layout: LAYOUT,
@@ -73,7 +75,7 @@ pub fn first_record(role: Role) -> Record
         position: 0,
         cp: 0,
         cd: 1 + STAMP_WINDOW,
-        epoch: FIRST_EPOCH,
+        epoch,
         role,
         gaps: ArrayVec::new(),
         floor: 0,

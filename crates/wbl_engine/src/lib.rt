@@ -3,8 +3,10 @@
 
 mod clearing;
 mod commit;
+mod commit_all;
 mod commit_and_free;
 mod committed;
+mod copying;
 mod durable;
 mod engine;
 mod erasing;
@@ -28,10 +30,10 @@ pub use freeing::Freed;
 pub use heap_layout::Versions;
 pub use inspecting::inspect;
 pub use laws::{
-    durable_contents_are_left, groups_keep_contents_lawful, lawful_contents_are_reopened,
-    lawful_contents_are_undamaged, new_contents_are_lawful, promoted_contents_are_lawful,
-    promoted_contents_are_reopened, reopening_keeps_contents, same_contents_are_lawful,
-    synced_contents_are_durable,
+    copies_are_lawful, durable_contents_are_left, groups_keep_contents_lawful,
+    lawful_contents_are_reopened, lawful_contents_are_undamaged, new_contents_are_lawful,
+    promoted_contents_are_lawful, promoted_contents_are_reopened, reopening_keeps_contents,
+    rising_parts_are_fresh, same_contents_are_lawful, synced_contents_are_durable,
 };
 pub use model::{Gap, Record, Role};
 pub use reopening::layout_in;

@@ -2,23 +2,28 @@
 ghost use Rattle.std.specs.Prelude.{◌≡◌, ◌⊎◌, ◌<◌, IfSome, IfNone, OnOk, OnErr};
 ghost use Rattle.pmem.specs.Device.{moment};
 ghost use Rattle.pmem.specs.Runs.{LeavesOnly};
+ghost use Rattle.model.specs.declared.record.Role.TheVariants.{Newcomer};
 ghost use Rattle.wbl_record.specs.Current.{IsLawful};
 ghost use Rattle.wbl_engine.specs.AtRest.{IsAtRest, contents_of};
 ghost use Rattle.wbl_engine.specs.Contents.{Keeps, Same};
 ghost use Rattle.wbl_engine.specs.Promoting.{ExhaustsPromotion, promoted, promoted_record};
 
-use crate::successor::copy_gaps;
+use crate::successor::{copy_gaps, is_newcomer};
 use model::{COUNTER_LIMIT, Record, Role};
 use pmem::{Fault, Pmem};
 use wbl_record::write_durably;
 
-/// The record after a promotion, or `None` if its number or its epoch would reach 2^62.
+/// The record after a promotion, or `None` if its number or its epoch would reach 2^62, or the current one is a newcomer's.
 pub fn promoted_record(current: &Record) -> Option<Record>
     requires lawful { IsLawful current.now }
     ensures next { IfSome result (λ next. next ≡ promoted_record current.now) }
     ensures lawful { IfSome result IsLawful }
+    ensures other { IfSome result (λ next. ¬ (current.now.role ≡ Newcomer)) }
     ensures exhausted { IfNone result (ExhaustsPromotion current.now) }
 {
+    if is_newcomer(current) {
+        return None;
+    }
     let number = current.number + 1;
     let epoch = current.epoch + 1;
     if number < COUNTER_LIMIT && epoch < COUNTER_LIMIT {

@@ -1,7 +1,8 @@
 //! A record that raises the floor, before what has ended up to it is freed.
-ghost use Rattle.std.specs.Prelude.{◌≡◌, ◌⊎◌, ◌<◌, IfSome, IfNone, OnOk, OnErr};
+ghost use Rattle.std.specs.Prelude.{◌≡◌, ◌⊎◌, ◌<◌, ◌≤◌, IfSome, IfNone, OnOk, OnErr};
 ghost use Rattle.pmem.specs.Device.{moment};
 ghost use Rattle.pmem.specs.Runs.{LeavesOnly};
+ghost use Rattle.model.specs.declared.record.Role.TheVariants.{Newcomer};
 ghost use Rattle.model.specs.Floor.{raised_record};
 ghost use Rattle.wbl_record.specs.Current.{IsLawful};
 ghost use Rattle.wbl_engine.specs.AtRest.{IsAtRest, contents_of};
@@ -10,22 +11,24 @@ ghost use Rattle.wbl_engine.specs.Freeing.{AreEnded, KeepsFreed, after_free};
 ghost use Rattle.wbl_engine.specs.Raising.{ExhaustsRaising, IsRaised, under};
 
 use crate::erasing::erase_durably;
-use crate::successor::copy_gaps;
+use crate::successor::{copy_gaps, is_newcomer};
 use kv_types::EntryNo;
 use model::{COUNTER_LIMIT, Record};
 use pmem::{Fault, Pmem};
 use wbl_record::write_next;
 
-/// The current record, if its floor is this or higher; otherwise the next one, with this floor. `None` if its number would reach 2^62.
+/// The current record, if its floor is this or higher; otherwise the next one, with this floor. `None` if its number would reach 2^62, or the current
+/// one is a newcomer's.
 pub fn raised_record(current: &Record, floor: u64) -> Option<Record>
     requires lawful { IsLawful current.now }
     ensures next { IfSome result (λ next. next ≡ raised_record floor current.now) }
     ensures raised { IfSome result (IsRaised current.now) }
     ensures lawful { IfSome result IsLawful }
+    ensures newcomer { IfSome result (λ next. current.now.role ≡ Newcomer → floor ≤ current.now.floor) }
     ensures exhausted { IfNone result (ExhaustsRaising floor current.now) }
 {
     let number = raised_number(current, floor);
-    if number >= COUNTER_LIMIT {
+    if number >= COUNTER_LIMIT || (current.floor < floor && is_newcomer(current)) {
         return None;
     }
     Some(Record {

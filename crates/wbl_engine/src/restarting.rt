@@ -24,6 +24,8 @@ pub trait Restarting: Durable {
     fn fail_at(&mut self, n: u64)
         ensures asked { Self.device self.new ≡ record (Self.device self.old) { fences = Sure (if n == 0 then None else Some n) } }
         ensures contents { Self.contents self.new ≡ Self.contents self.old }
+        ensures copying { Self.is_copying self.new ≡ Self.is_copying self.old }
+        ensures staged { Self.staged self.new ≡ Self.staged self.old }
         ensures faulted { Self.is_faulted self.new ≡ Self.is_faulted self.old };
 
     /// Makes the next `crash_kept` pick from the candidates as they will be after `k` more calls of the device, if that many are made; this replaces an
@@ -31,6 +33,8 @@ pub trait Restarting: Durable {
     fn keep_at(&mut self, k: u64)
         ensures keeps { Keeps (Self.device self.old) (Self.device self.new) (moment (Self.device self.old) + k) }
         ensures contents { Self.contents self.new ≡ Self.contents self.old }
+        ensures copying { Self.is_copying self.new ≡ Self.is_copying self.old }
+        ensures staged { Self.staged self.new ≡ Self.staged self.old }
         ensures faulted { Self.is_faulted self.new ≡ Self.is_faulted self.old };
 
     /// Crashes the device as of the moment that it was asked to keep; now, if it was asked for none, or if that has not come. The picks are those of
@@ -83,6 +87,7 @@ pub trait Restarting: Durable {
             IsShown (Self.contents self.new) versions.counted.items versions.gapped.items (image_of (Self.device self.new).words)) }
         ensures durable { OnOk result (IsDurable (Self.device self.new) (Self.contents self.new)) }
         ensures sound { OnOk result ((Self.is_faulted self.new ≡ false) × ((Self.device self.new).failures ≡ (Self.device self.old).failures)) }
+        ensures idle { OnOk result (Self.is_copying self.new ≡ false) }
         ensures stopped { IsErrOf result Refusal.Fault → Self.is_faulted self.new ≡ true }
         ensures refused { IfErr result (λ refusal. (refusal ≡ Refusal.Fault)
             ⊎ (RefusesReopening (layout_in (image_of (Self.device self.old).words)) (Self.device self.old).lines (image_of (Self.device self.old).words) role

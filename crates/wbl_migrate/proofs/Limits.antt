@@ -38,7 +38,7 @@ reopening_exhausts lines image q r s whole old refuses =
 -- while the entries were emptied
 pub vacating_exhausts : (lines : ℕ) (image : Image) (q r : Record) (s : Keyspace) (d : State) → super_refusal Version1 lines image ≡ None
     → IsOldImage lines r s image
-    → RefusesReopening Version1 lines image q.role Exhausted ⊎ Leaves d (StaysOldWith (λ current _. ExhaustsRelocation current) lines r s)
+    → RefusesReopening Version1 lines image q.role Exhausted ⊎ Leaves d (StaysOldWith (λ current _. ExhaustsRelocation 1 current) lines r s)
     → IsAtLimit lines r s d
 vacating_exhausts lines image q r s d whole old told =
     elim told [ inl refuses ↦ inl (inl (reopening_exhausts lines image q r s whole old refuses)) | inr left ↦ inr (inl left) ]

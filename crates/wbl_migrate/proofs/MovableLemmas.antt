@@ -102,6 +102,7 @@ halfway_lawful r lawful =
       room = lawful.room;
       some_epoch = lawful.some_epoch;
       epoch = lawful.epoch;
+      newcomer = lawful.newcomer;
       few = lawful.few;
       gaps = lawful.gaps;
     }
@@ -116,6 +117,7 @@ renewed_lawful r lawful number =
       room = lawful.room;
       some_epoch = lawful.some_epoch;
       epoch = lawful.epoch;
+      newcomer = lawful.newcomer;
       few = omega arith;
       gaps = tt;
     }

@@ -9,17 +9,18 @@ use Rattle.pmem.specs.Device.{State}
 use Rattle.pmem.specs.Runs.{LeavesOnly}
 use Rattle.pmem.proofs.Leaving.{LeavesOnly-then, LeavesOnly-weaken}
 use Rattle.model.specs.declared.group.Part.{Part}
-use Rattle.model.specs.Group.{Contents, IsConsistent, Versions, is_ended_version, is_put_at, puts_of_part}
+use Rattle.model.specs.Group.{Contents, IsConsistent, Versions, is_ended_version, is_put_at}
 use Rattle.model.specs.Image.{Image, Version}
 use Rattle.wbl_engine.specs.Contents.{IsDurable, Keeps, Same}
 use Rattle.wbl_engine.specs.Freeing.{AreEnded, KeepsWithoutSome, after_free, is_listed, without}
 use Rattle.wbl_engine.specs.Lawful.{AreLawful}
 use Rattle.wbl_engine.specs.Relocating.{ExhaustsRelocation, IsRelocation, after_relocation}
+use Rattle.wbl_engine.specs.Stage.{puts_of_parts}
 use Rattle.wbl_engine.proofs.RelocatingLemmas.{relocated_consistent, relocated_lawful, relocated_map}
 use Rattle.wbl_engine.proofs.WithoutLemmas.{IsMapOf-contents_without, consistent_without, lawful_without}
 use Rattle.wbl_migrate.specs.declared.moving.Place.{Place}
 use Rattle.wbl_migrate.specs.Moving.{HasMoved, HoldsBy, IsReady, IsStep, MovesLive, version_read}
-use Rattle.wbl_migrate.proofs.MovedLemmas.{IsMove, differ, ended_there, from_within, made, made_is, made_kept, made_there, puts_are}
+use Rattle.wbl_migrate.proofs.MovedLemmas.{IsMove, all_puts_are, differ, ended_there, from_within, made, made_is, made_kept, made_there}
 use Rattle.wbl_migrate.proofs.StepLemmas.{no_step, ok_no_error}
 
 -- ---- live versions that lie elsewhere
@@ -72,9 +73,9 @@ listed_itself from = or_left (nat_eq from.0 from.0) false (eq-eqb from.0 from.0 
 none_some : {X : Type 0} {x : X} → None ≡ Some x → ⊥
 none_some e = cc
 
-module _ {a : Contents} {from : EntryNo} {entry : Entry} {place : Place} {part : Part} (move : IsMove a from entry place part) (asked : IsRelocation a part) where
+module _ {a : Contents} {from : EntryNo} {entry : Entry} {place : Place} {part : Part} (move : IsMove a from entry place part) (asked : IsRelocation a (part ∷ [])) where
   abbrev again : Contents
-  again = after_relocation a part
+  again = after_relocation a (part ∷ [])
 
   again_at : (i : ℕ) → again.versions i ≡ made move i
   again_at i = ap (λ (versions : Versions). versions i) (made_is move)
@@ -101,7 +102,7 @@ module _ {a : Contents} {from : EntryNo} {entry : Entry} {place : Place} {part :
   pub ended_again : AreEnded again (from ∷ [])
   ended_again = (from_within move, ap is_ended_version (again_at from.0) ∙ ended_there move, refl, tt)
 
-  module _ (room : ¬ ExhaustsRelocation a.current) where
+  module _ (room : ¬ ExhaustsRelocation 1 a.current) where
     pub moves_again : MovesLive a again
     moves_again =
         record {
@@ -113,7 +114,7 @@ module _ {a : Contents} {from : EntryNo} {entry : Entry} {place : Place} {part :
           gaps = refl;
           map = relocated_map move.consistent asked;
           ended = λ i version is ended. (still_ended i version is ended).1;
-          lawful = λ lawful. relocated_lawful a part lawful asked room;
+          lawful = λ lawful. relocated_lawful a (part ∷ []) lawful asked room;
         }
 
     pub moves_freed : (gone : ℕ → Bool) → ((i : ℕ) → IsTrue (gone i) → IsTrue (is_listed i (from ∷ []))) → MovesLive a (without gone again)
@@ -129,7 +130,7 @@ module _ {a : Contents} {from : EntryNo} {entry : Entry} {place : Place} {part :
           ended = λ i version is ended.
               let still = still_ended i version is ended in
               cond-false (gone i) None (again.versions i) (left i still.0) ∙ still.1;
-          lawful = λ lawful. lawful_without again gone (had_ended gone listed) (relocated_lawful a part lawful asked room);
+          lawful = λ lawful. lawful_without again gone (had_ended gone listed) (relocated_lawful a (part ∷ []) lawful asked room);
         }
       where
         left : (i : ℕ) → i ≢ from.0 → gone i ≡ false
@@ -191,23 +192,23 @@ module _ {a : Contents} {from : EntryNo} {entry : Entry} {place : Place} {part :
 
       taken_there : again.is_free place.entry.0 ≡ false
       taken_there =
-          and_not (a.is_free place.entry.0) (is_put_at place.entry.0 (puts_of_part part))
-          (ap (is_put_at place.entry.0) (puts_are move) ∙ or_left (nat_eq place.entry.0 place.entry.0) false (eq-eqb place.entry.0 place.entry.0 refl))
+          and_not (a.is_free place.entry.0) (is_put_at place.entry.0 (puts_of_parts (part ∷ [])))
+          (ap (is_put_at place.entry.0) (all_puts_are move) ∙ or_left (nat_eq place.entry.0 place.entry.0) false (eq-eqb place.entry.0 place.entry.0 refl))
 
       not_put : (i : ℕ) → i ≢ place.entry.0 → again.is_free i ≡ a.is_free i
       not_put i elsewhere =
-          and_none (a.is_free i) (is_put_at i (puts_of_part part))
-          (ap (is_put_at i) (puts_are move) ∙ ap (λ (b : Bool). b || false) (ne_eqb i place.entry.0 elsewhere))
+          and_none (a.is_free i) (is_put_at i (puts_of_parts (part ∷ [])))
+          (ap (is_put_at i) (all_puts_are move) ∙ ap (λ (b : Bool). b || false) (ne_eqb i place.entry.0 elsewhere))
 
 -- ---- the calls
 
 module _ {E : Type 0} (device : E → State) (contents : E → Contents) (is_faulted : E → Bool) (old : E) (ready : IsReady device contents is_faulted old)
-    {from : EntryNo} {entry : Entry} {place : Place} {part : Part} (move : IsMove (contents old) from entry place part) (asked : IsRelocation (contents old) part) where
+    {from : EntryNo} {entry : Entry} {place : Place} {part : Part} (move : IsMove (contents old) from entry place part) (asked : IsRelocation (contents old) (part ∷ [])) where
   -- the version was not moved
   pub unmoved_step : {X : Type 0} (new : E) (refusal : Refusal) → (refusal ≡ Fault) ⊎ (refusal ≡ Exhausted)
-      → (refusal ≡ Fault → ¬ ExhaustsRelocation (contents old).current) → (refusal ≡ Exhausted → new ≡ old) → Same (contents old) (contents new)
+      → (refusal ≡ Fault → ¬ ExhaustsRelocation 1 (contents old).current) → (refusal ≡ Exhausted → new ≡ old) → Same (contents old) (contents new)
       → (refusal ≡ Fault → (is_faulted new ≡ true) × ((device old).failures < (device new).failures)) → (device new).kept ≡ (device old).kept
-      → LeavesOnly (device old) (device new) (λ image. Keeps (contents old) image ⊎ Keeps (after_relocation (contents old) part) image)
+      → LeavesOnly (device old) (device new) (λ image. Keeps (contents old) image ⊎ Keeps (after_relocation (contents old) (part ∷ [])) image)
       → IsStep device contents is_faulted {X = X} MovesLive old (Err refusal) new
   unmoved_step {X} new refusal causes room exhausted stays fault asked_moment moments =
       elim causes [
@@ -226,12 +227,12 @@ module _ {E : Type 0} (device : E → State) (contents : E → Contents) (is_fau
             ready)
       ]
 
-  module _ (mid : E) (room : ¬ ExhaustsRelocation (contents old).current) (moved : Same (after_relocation (contents old) part) (contents mid))
+  module _ (mid : E) (room : ¬ ExhaustsRelocation 1 (contents old).current) (moved : Same (after_relocation (contents old) (part ∷ [])) (contents mid))
       (durable : IsDurable (device mid) (contents mid)) (sound : (is_faulted mid ≡ false) × ((device mid).failures ≡ (device old).failures))
       (asked_moment : (device mid).kept ≡ (device old).kept)
-      (moments : LeavesOnly (device old) (device mid) (λ image. Keeps (contents old) image ⊎ Keeps (after_relocation (contents old) part) image)) where
-    mid_is : contents mid ≡ after_relocation (contents old) part
-    mid_is = same_is (after_relocation (contents old) part) (contents mid) moved
+      (moments : LeavesOnly (device old) (device mid) (λ image. Keeps (contents old) image ⊎ Keeps (after_relocation (contents old) (part ∷ [])) image)) where
+    mid_is : contents mid ≡ after_relocation (contents old) (part ∷ [])
+    mid_is = same_is (after_relocation (contents old) (part ∷ [])) (contents mid) moved
 
     pub mid_ended : AreEnded (contents mid) (from ∷ [])
     mid_ended = subst (λ (contents : Contents). AreEnded contents (from ∷ [])) (sym mid_is) (ended_again move asked)
@@ -245,7 +246,7 @@ module _ {E : Type 0} (device : E → State) (contents : E → Contents) (is_fau
             sound = sound.0;
             durable = durable;
             consistent = subst IsConsistent (sym mid_is) (relocated_consistent ready.consistent asked);
-            lawful = subst AreLawful (sym mid_is) (relocated_lawful (contents old) part ready.lawful asked room);
+            lawful = subst AreLawful (sym mid_is) (relocated_lawful (contents old) (part ∷ []) ready.lawful asked room);
           };
           failures = λ _. sound.1;
           fault = λ err. absurd (other (cc));
@@ -261,7 +262,7 @@ module _ {E : Type 0} (device : E → State) (contents : E → Contents) (is_fau
           (run_freed move asked room
           (subst (λ (contents : Contents). LeavesOnly (device mid) (device new) (KeepsWithoutSome (from ∷ []) contents)) mid_is moments'))
 
-      new_is : Same (after_free (from ∷ []) (contents mid)) (contents new) → contents new ≡ after_free (from ∷ []) (after_relocation (contents old) part)
+      new_is : Same (after_free (from ∷ []) (contents mid)) (contents new) → contents new ≡ after_free (from ∷ []) (after_relocation (contents old) (part ∷ []))
       new_is freed = same_is (after_free (from ∷ []) (contents mid)) (contents new) freed ∙ ap (after_free (from ∷ [])) mid_is
 
       stands : Same (after_free (from ∷ []) (contents mid)) (contents new) → MovesLive (contents old) (contents new)
@@ -279,7 +280,7 @@ module _ {E : Type 0} (device : E → State) (contents : E → Contents) (is_fau
               sound = sound'.0;
               durable = durable';
               consistent = subst IsConsistent (sym (new_is freed))
-                  (consistent_without (after_relocation (contents old) part) (λ (i : ℕ). is_listed i (from ∷ [])) (relocated_consistent ready.consistent asked));
+                  (consistent_without (after_relocation (contents old) (part ∷ [])) (λ (i : ℕ). is_listed i (from ∷ [])) (relocated_consistent ready.consistent asked));
               lawful = (stands freed).lawful ready.lawful;
             };
             failures = λ _. sound'.1 ∙ sound.1;

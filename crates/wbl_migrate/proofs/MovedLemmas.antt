@@ -1,5 +1,5 @@
 -- A version that is made again in another place, and then is gone from its old one.
-use Rattle.std.proofs.Common.{◌≡◌, ◌≢◌, ◌<◌, ◌≤◌, ◌||◌, inl, inr, ℕ, Bool, false, true, not, cond, IsTrue, nat_eq, List, [], ◌∷◌, map, get_or, Contains, Option, None, Some, refl, sym, ap, ap₂, subst, ◌∙◌, arith, eq-eqb, ne_eqb}
+use Rattle.std.proofs.Common.{◌≡◌, ◌≢◌, ◌<◌, ◌≤◌, ◌||◌, inl, inr, ℕ, Bool, false, true, not, cond, IsTrue, nat_eq, List, [], ◌∷◌, map, get_or, Contains, Option, None, Some, refl, sym, ap, ap₂, subst, ◌∙◌, arith, append-nil, eq-eqb, ne_eqb}
 use Rattle.std.proofs.lemmas.Bool.{and_from, both_ways, cases_Bool, cases_eq, cond-false, cond-true, or_cases, or_left, or_right, true≢false}
 use Rattle.std.specs.List.{AllByRecursion, flat_map}
 use Rattle.kv_types.specs.declared.change.Change.{Change}
@@ -23,7 +23,9 @@ use Rattle.model.proofs.VersionsLemmas.{ends_record-own}
 use Rattle.wbl_engine.specs.Contents.{Keeps}
 use Rattle.wbl_engine.specs.Lawful.{AreLawful}
 use Rattle.wbl_engine.specs.Relocating.{IsRelocation}
+use Rattle.wbl_engine.specs.Stage.{puts_of_parts}
 use Rattle.wbl_engine.proofs.LawfulLemmas.{lawful_distinct}
+use Rattle.wbl_engine.proofs.RelocatingLemmas.{relocates_one}
 use Rattle.wbl_migrate.specs.declared.moving.Place.{Place}
 use Rattle.wbl_migrate.specs.Moving.{IsRoomFor, put_again, version_read}
 
@@ -194,25 +196,27 @@ module _ {a : Contents} {from : EntryNo} {entry : Entry} {place : Place} {part :
           not_both None live ended = true≢false (sym live)
           not_both (Some v) live ended = true≢false (sym live ∙ ap not ended)
 
+  pub all_puts_are : puts_of_parts (part ∷ []) ≡ put ∷ []
+  all_puts_are = append-nil (puts_of_part part) ∙ puts_are
+
   -- the engine may be asked
-  pub relocates : (image : Image) → Keeps a image → IsRelocation a part
+  pub relocates : (image : Image) → Keeps a image → IsRelocation a (part ∷ [])
   relocates image keeps =
-      record {
-        position = subst (λ (n : ℕ). n ≤ a.current.position) (sym move.position) (position_below a image move.consistent keeps from.0 (version_read entry) move.held);
-        same = record {
-          put = put;
-          changes = move.changes;
-          entry = from.0;
-          version = version_read entry;
-          held = move.held;
-          live = not_ended;
-          id_is = refl;
-          value_is = refl;
-          position_is = sym move.position;
-        };
-        names = named;
-        placed = subst (λ (puts : List Put). AllByRecursion (IsPlaced (entries_of a) a.lines) puts) (sym puts_are) (move.room.placed, tt);
-        fitting = subst (λ (puts : List Put). AllByRecursion HasItsLines puts) (sym puts_are) (move.room.fitting, tt);
-        unused = subst (λ (puts : List Put). AllByRecursion (IsUnused a.versions a.is_free) puts) (sym puts_are) (move.room.unused, tt);
-        apart = subst (λ (puts : List Put). AreAllApart puts) (sym puts_are) (tt, tt);
-      }
+      relocates_one a part
+      (subst (λ (n : ℕ). n ≤ a.current.position) (sym move.position) (position_below a image move.consistent keeps from.0 (version_read entry) move.held))
+      (record {
+        put = put;
+        changes = move.changes;
+        entry = from.0;
+        version = version_read entry;
+        held = move.held;
+        live = not_ended;
+        id_is = refl;
+        value_is = refl;
+        position_is = sym move.position;
+      })
+      named
+      (subst (λ (puts : List Put). AllByRecursion (IsPlaced (entries_of a) a.lines) puts) (sym puts_are) (move.room.placed, tt))
+      (subst (λ (puts : List Put). AllByRecursion HasItsLines puts) (sym puts_are) (move.room.fitting, tt))
+      (subst (λ (puts : List Put). AllByRecursion (IsUnused a.versions a.is_free) puts) (sym puts_are) (move.room.unused, tt))
+      (subst (λ (puts : List Put). AreAllApart puts) (sym puts_are) (tt, tt))

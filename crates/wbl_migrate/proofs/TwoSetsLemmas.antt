@@ -15,6 +15,7 @@ use Rattle.model.specs.declared.group.Put.{Put}
 use Rattle.model.specs.declared.layout.Layout.{Layout}
 use Rattle.model.specs.declared.layout.Layout.TheVariants.{Version2}
 use Rattle.model.specs.declared.record.Record.{Record}
+use Rattle.model.specs.declared.record.TheConstants.{FIRST_EPOCH}
 use Rattle.model.specs.declared.record.Role.TheVariants.{Primary}
 use Rattle.model.specs.Floor.{floored}
 use Rattle.model.specs.Group.{AreAllApart, AreApart, AreParts, Contents, HasItsLines, IsGroup, IsPlaced, IsUnused, Versions, after_group, change_of, changes_versions, ended_by, ended_where_begun, entries_of, is_ended_version, is_live_version, is_put_at, NamesEnded, part_versions, parts_versions, put_of, puts_of_group, puts_of_part, version_of_put}
@@ -127,7 +128,7 @@ named versions part position changes ended is_position is_changes is_ended names
     (subst (λ (cs : List PlacedChange). Names versions part.position cs ended) (sym is_changes)
     (subst (λ (n : ℕ). Names versions n changes ended) (sym is_position) names))
 
-module _ {a b : ℕ} {old : Contents} {group : Group} (new : IsNew 4096 Primary old) (two : IsTwoSets a b group) where
+module _ {a b : ℕ} {old : Contents} {group : Group} (new : IsNew 4096 Primary FIRST_EPOCH old) (two : IsTwoSets a b group) where
   puts_are : puts_of_group group ≡ first_set a ∷ second_set b ∷ []
   puts_are =
       ap (flat_map puts_of_part) two.parts
@@ -194,7 +195,7 @@ module _ {a b : ℕ} {old : Contents} {group : Group} (new : IsNew 4096 Primary 
 zero_one : ◌≢◌ {A = ℕ} 0 1
 zero_one is = omega (arith, is)
 
-module _ {old : Contents} {group : Group} (new : IsNew 4096 Primary old) (two : IsTwoSets 0 1 group) {held : Contents} {r : Record} (d : State)
+module _ {old : Contents} {group : Group} (new : IsNew 4096 Primary FIRST_EPOCH old) (two : IsTwoSets 0 1 group) {held : Contents} {r : Record} (d : State)
     (same : Same (after_group (floored 0 old) group) held) (durable : IsDurable d held) (filled : held.lines ≡ d.lines)
     (current : IsCurrent d.lines (image_of d.words) r) where
   held_at : (i : ℕ) → held.versions i ≡ after_second 0 1 old.versions i
@@ -250,8 +251,8 @@ module _ {old : Contents} {group : Group} (new : IsNew 4096 Primary old) (two : 
 
 -- ---- the same device
 
-pub new_at : {old : Contents} {d e : State} → d ≡ e → IsNew d.lines Primary old → IsNew e.lines Primary old
-new_at {old} same new = subst (λ (d : State). IsNew d.lines Primary old) same new
+pub new_at : {old : Contents} {d e : State} → d ≡ e → IsNew d.lines Primary FIRST_EPOCH old → IsNew e.lines Primary FIRST_EPOCH old
+new_at {old} same new = subst (λ (d : State). IsNew d.lines Primary FIRST_EPOCH old) same new
 
 pub moving_at : {held : Contents} {r : Record} {version : Version} {d e : State} → e ≡ d → IsMoving r d held 0 5 600 version
     → IsMoving r e held 0 5 600 version

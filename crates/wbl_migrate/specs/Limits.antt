@@ -23,4 +23,4 @@ pub record IsVacatedAtLimit (lines' : ℕ) (r : Record) (s : Keyspace) (d : Stat
 abbrev pub IsAtLimit : ℕ → Record → Keyspace → State → Type 0
 IsAtLimit lines r s d =
     (ExhaustsReopening r ⊎ (COUNTER_LIMIT ≤ r.number + 1))
-    ⊎ (Leaves d (StaysOldWith (λ current _. ExhaustsRelocation current) lines r s) ⊎ IsVacatedAtLimit lines r s d)
+    ⊎ (Leaves d (StaysOldWith (λ current _. ExhaustsRelocation 1 current) lines r s) ⊎ IsVacatedAtLimit lines r s d)

@@ -87,7 +87,7 @@ fn image_of_both(alloc: Global) -> Result<(SimPmem, Record), Refusal>
     ensures { IfOk result (λ made. (contents : Contents) × (version : Version) × IsMoving made.1 (state_of made.0) contents 0 5 600 version) }
 {
     let group = two_sets(alloc, 0, 1)?;
-    match WblEngine::format(SimPmem::new(alloc, MIN_LINES)?, Role::Primary) {
+    match WblEngine::format(SimPmem::new(alloc, MIN_LINES)?, Role::Primary, FIRST_EPOCH) {
         Ok(engine) => {
             let mut engine = engine;
             engine.commit(&group, 0)?;

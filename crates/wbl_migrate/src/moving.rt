@@ -38,11 +38,11 @@ pub fn move_version<E: Durable>(
     requires room { IsRoomFor (E.contents engine.old) version.now place }
     ensures moved { OnOk result (HasMoved (E.contents engine.old) from version.now place (E.contents engine.new)) }
     ensures causes { IfErr result (λ refusal. (refusal ≡ Refusal.Fault) ⊎ ((refusal ≡ Refusal.Exhausted) ⊎ (refusal ≡ Refusal.Memory))) }
-    ensures exhausted { IsErrOf result Refusal.Exhausted → ExhaustsRelocation (E.contents engine.old).current × (engine.new ≡ engine.old) }
+    ensures exhausted { IsErrOf result Refusal.Exhausted → ExhaustsRelocation 1 (E.contents engine.old).current × (engine.new ≡ engine.old) }
     ensures step { IsStep E.device E.contents E.is_faulted MovesLive engine.old result engine.new }
 {
     let part = make_again(alloc, from, version, place)?;
-    engine.relocate(&part)?;
+    engine.relocate(std::slice::from_ref(&part))?;
     free_unraised(engine, alloc, &part.ended)?;
     Ok(())
 }
@@ -67,7 +67,7 @@ pub fn move_live<E: Durable>(
     ensures leaving { IfOk result (λ places. AreLeaving (E.contents engine.new) versions.now.counted.items versions.now.gapped.items cleared.now places.items 0) }
     ensures causes { IfErr result (λ refusal. (refusal ≡ Refusal.Full) ⊎ (refusal ≡ Refusal.Fault) ⊎ ((refusal ≡ Refusal.Exhausted) ⊎ (refusal ≡ Refusal.Memory))) }
     ensures full { IsErrOf result Refusal.Full → IsLeft (E.contents engine.new) }
-    ensures exhausted { IsErrOf result Refusal.Exhausted → ExhaustsRelocation (E.contents engine.new).current }
+    ensures exhausted { IsErrOf result Refusal.Exhausted → ExhaustsRelocation 1 (E.contents engine.new).current }
     ensures step { IsStep E.device E.contents E.is_faulted MovesLive engine.old result engine.new }
 {
     let mut places = places_of(alloc, &versions.counted)?;
@@ -92,7 +92,7 @@ fn move_next<E: Durable>(
     ensures moved { OnOk result (AreMoved (E.contents engine.new) versions.now.counted.items versions.now.gapped.items cleared.now places.new.items (index + 1)) }
     ensures causes { IfErr result (λ refusal. (refusal ≡ Refusal.Full) ⊎ (refusal ≡ Refusal.Fault) ⊎ ((refusal ≡ Refusal.Exhausted) ⊎ (refusal ≡ Refusal.Memory))) }
     ensures full { IsErrOf result Refusal.Full → IsLeft (E.contents engine.new) }
-    ensures exhausted { IsErrOf result Refusal.Exhausted → ExhaustsRelocation (E.contents engine.new).current }
+    ensures exhausted { IsErrOf result Refusal.Exhausted → ExhaustsRelocation 1 (E.contents engine.new).current }
     ensures step { IsStep E.device E.contents E.is_faulted MovesLive engine.old result engine.new }
 {
     let read = &versions.counted[index];

@@ -4,7 +4,7 @@ ghost use Rattle.wbl_migrate.specs.Moving.{AreKnown, IsReady};
 
 use crate::{clear_gaps, move_live, read_versions_are_known};
 use kv_types::Refusal;
-use model::{LAYOUT, Role};
+use model::{FIRST_EPOCH, LAYOUT, Role};
 use pmem::{Crashing, SimPmem};
 use std::alloc::Global;
 use wbl_engine::{Durable, Versions, WblEngine};
@@ -40,7 +40,7 @@ fn make_room<E: Durable>(engine: &mut E, alloc: Global, versions: &Versions) -> 
 #[test]
 fn clears_what_crashes_left(rt: HostRuntime) -> Result<(), Refusal> {
     let device = SimPmem::new(rt.alloc(), 4096)?;
-    let engine = match WblEngine::format(device, Role::Standby) {
+    let engine = match WblEngine::format(device, Role::Standby, FIRST_EPOCH) {
         Ok(engine) => engine,
         Err((refusal, _)) => return Err(refusal),
     };

@@ -57,7 +57,7 @@ pub fn vacate<P: Pmem>(alloc: Global, device: P, role: Role) -> Result<(P, Recor
     ensures exhausted { IfErr result (λ refused. refused.0 ≡ Refusal.Exhausted → (r : CommitRecord) (s : Keyspace)
         → IsOldImage (P.state device).lines r s (image_of (P.state device).words)
         → RefusesReopening Version1 (P.state device).lines (image_of (P.state device).words) role Refusal.Exhausted
-        ⊎ Leaves (P.state refused.1) (StaysOldWith (λ current _. ExhaustsRelocation current) (P.state device).lines r s)) }
+        ⊎ Leaves (P.state refused.1) (StaysOldWith (λ current _. ExhaustsRelocation 1 current) (P.state device).lines r s)) }
     ensures fault { IfErr result (λ refused. refused.0 ≡ Refusal.Fault → (P.state device).failures < (P.state refused.1).failures) }
     ensures no_fault { IfErr result (λ refused. (refused.0 ≡ Refusal.Fault → ⊥) → (P.state refused.1).failures ≡ (P.state device).failures) }
     ensures moments { (r : CommitRecord) (s : Keyspace) → IsOldImage (P.state device).lines r s (image_of (P.state device).words)
@@ -87,7 +87,7 @@ fn vacate_engine<E: Durable>(
     ensures full { IfErr result (λ refused. refused.0 ≡ Refusal.Full
         → StopsAt (λ contents. ¬ IsEmptied contents) (E.Device.state refused.1) (E.contents engine)) }
     ensures exhausted { IfErr result (λ refused. refused.0 ≡ Refusal.Exhausted
-        → StopsAt (λ contents. ExhaustsRelocation contents.current) (E.Device.state refused.1) (E.contents engine)) }
+        → StopsAt (λ contents. ExhaustsRelocation 1 contents.current) (E.Device.state refused.1) (E.contents engine)) }
     ensures fault { IfErr result (λ refused. refused.0 ≡ Refusal.Fault → (E.device engine).failures < (E.Device.state refused.1).failures) }
     ensures no_fault { IfErr result (λ refused. (refused.0 ≡ Refusal.Fault → ⊥) → (E.Device.state refused.1).failures ≡ (E.device engine).failures) }
     ensures moments { MatchResult result
@@ -120,7 +120,7 @@ fn vacate_live<E: Durable>(
     ensures causes { IfErr result (λ refusal. (refusal ≡ Refusal.Full)
         ⊎ ((refusal ≡ Refusal.Fault) ⊎ ((refusal ≡ Refusal.Exhausted) ⊎ (refusal ≡ Refusal.Memory)))) }
     ensures full { IsErrOf result Refusal.Full → IsLeft (E.contents engine.new) }
-    ensures exhausted { IsErrOf result Refusal.Exhausted → ExhaustsRelocation (E.contents engine.new).current }
+    ensures exhausted { IsErrOf result Refusal.Exhausted → ExhaustsRelocation 1 (E.contents engine.new).current }
     ensures step { IsStep E.device E.contents E.is_faulted Vacates engine.old result engine.new }
 {
     let cleared = clear_gaps(engine, alloc)?;

@@ -3,6 +3,7 @@ use Rattle.std.specs.Prelude.{◌≡◌, ℕ, ◌+◌, ◌<◌, ◌≤◌, List,
 use Rattle.model.specs.declared.image.TheConstants.{COUNTER_LIMIT, STAMP_WINDOW}
 use Rattle.model.specs.declared.record.Gap.{Gap}
 use Rattle.model.specs.declared.record.Record.{Record}
+use Rattle.model.specs.declared.record.Role.TheVariants.{Newcomer}
 use Rattle.model.specs.Layout.{max_gaps, version}
 use Rattle.model.specs.Image.{Image, HasRecord}
 
@@ -21,6 +22,8 @@ pub record IsLawful (r : Record) : Type 0 where
   pub room : r.cd < COUNTER_LIMIT
   pub some_epoch : 0 < r.epoch
   pub epoch : r.epoch < COUNTER_LIMIT
+  -- a newcomer's image holds nothing
+  pub newcomer : r.role ≡ Newcomer → r.position ≡ 0
   -- at most as many as the layout has room for
   pub few : length r.gaps.items ≤ max_gaps r.layout
   pub gaps : AreGaps 0 r.gaps.items r.cp

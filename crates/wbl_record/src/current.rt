@@ -120,11 +120,12 @@ fn role_of(number: u64) -> Option<Role>
     match number {
         1 => Some(Role::Primary),
         2 => Some(Role::Standby),
+        3 => Some(Role::Newcomer),
         _ => None,
     }
 }
 
-/// Whether a record obeys its rules: its counters are within their limits, and its gaps rise and are below `cp`.
+/// Whether a record obeys its rules: its counters are within their limits, a newcomer's position is 0, and its gaps rise and are below `cp`.
 fn is_lawful(r: &Record) -> bool
     requires { length r.now.gaps.items ≤ max_gaps r.now.layout }
     ensures { IsTrue result ↔ IsLawful r.now }
@@ -137,6 +138,7 @@ fn is_lawful(r: &Record) -> bool
         && r.cd < COUNTER_LIMIT
         && 0 < r.epoch
         && r.epoch < COUNTER_LIMIT
+        && (r.role != Role::Newcomer || r.position == 0)
         && are_gaps(r.gaps.as_slice(), r.cp)
 }
 

@@ -106,5 +106,6 @@ fn number_of(role: Role) -> u64
     match role {
         Role::Primary => 1,
         Role::Standby => 2,
+        Role::Newcomer => 3,
     }
 }

@@ -1,5 +1,5 @@
 -- The committer and its engine still refine the machine's after each step.
-use Rattle.std.proofs.Common.{◌≡◌, ◌⊎◌, inl, inr, true≢false, ℕ, ◌+◌, ◌-◌, ◌<◌, ◌≤◌, ◌++◌, Bool, true, false, List, [], ◌∷◌, length, map, Result, Err, IfErr, IsErrOf, refl, sym, ap, ap₂, subst, ◌∙◌, arith, le_refl, max}
+use Rattle.std.proofs.Common.{◌≡◌, ◌≢◌, ◌⊎◌, inl, inr, true≢false, ℕ, ◌+◌, ◌-◌, ◌<◌, ◌≤◌, ◌++◌, Bool, true, false, List, [], ◌∷◌, length, map, Result, Err, IfErr, IsErrOf, refl, sym, ap, ap₂, subst, ◌∙◌, arith, le_refl, max}
 use Rattle.std.proofs.Math.Nat.{le-max_left}
 use Rattle.std.proofs.lemmas.List.{map-append}
 use Rattle.pmem.specs.Device.{State}
@@ -12,6 +12,7 @@ use Rattle.model.specs.declared.call.Call.{Call}
 use Rattle.model.specs.declared.group.Group.{Group}
 use Rattle.model.specs.declared.group.Part.{Part}
 use Rattle.model.specs.declared.image.TheConstants.{COUNTER_LIMIT, STAMP_WINDOW}
+use Rattle.model.specs.declared.record.Role.TheVariants as role
 use Rattle.model.specs.declared.work.FreeList.{FreeList}
 use Rattle.model.specs.declared.work.Work.{Work}
 use Rattle.model.specs.declared.work.Work.TheVariants as work
@@ -51,6 +52,7 @@ use Rattle.node_steps.proofs.GroupSpanLemmas.{AreGroupsOf-push, length-groups}
 use Rattle.primary.proofs.LeadsLemmas.{leads-after}
 use Rattle.primary.proofs.NumberedLemmas.{lawful_renumbered, leads_renumbered}
 use Rattle.world.proofs.RecallLemmas.{remembered-from, remembers-raised, remembers-renumbered}
+use Rattle.world.proofs.RoleLemmas.{newcomer_serves}
 
 -- ---- a group that waits behind free lists
 
@@ -231,9 +233,9 @@ parts-rise before versions (part ∷ parts) are = omega (arith, are.0, parts-ris
 
 -- a commit that would take a counter to the limit: a group takes one stamp per part, and its positions rise by at least one per part
 pub commit-limit : (holder : Holder) (w : World) (old : Committing) (lists : List FreeList) (group : Group) (new : Committing) (device : State) (contents : Contents) (is_faulted : Bool)
-    → TakesLawful contents old lists group new → Exhausts contents group → CommittingRefines w.primary.calls old w.primary.committer → EngineStands holder w.primary.calls w.primary.committer.position device contents is_faulted
+    → TakesLawful contents old lists group new → Exhausts contents group → holder.role ≡ role.Primary → CommittingRefines w.primary.calls old w.primary.committer → EngineStands holder w.primary.calls w.primary.committer.position device contents is_faulted
     → (image : Image) → IsImage device.words image → IsAtLimit holder.lines (next_primary w - w.primary.committer.position) (next_primary w - w.primary.committer.position) image
-commit-limit holder w old lists group new device contents is_faulted takes exhausts stands engine image is =
+commit-limit holder w old lists group new device contents is_faulted takes exhausts serves stands engine image is =
     let position = w.primary.committer.position in
     let lawful = takes.lawful in
     let next = next-group holder w.primary.calls position contents old lists group new w.primary.committer engine.contents_at takes stands in
@@ -250,7 +252,9 @@ commit-limit holder w old lists group new device contents is_faulted takes exhau
   where
     reached : (more : ℕ) → Exhausts contents group → length group.parts.items ≤ more → last_position contents.current.position group.parts.items ≡ contents.current.position + more
         → (COUNTER_LIMIT ≤ contents.current.cp + more + 1 + STAMP_WINDOW) ⊎ (COUNTER_LIMIT ≤ contents.current.position + more) ⊎ (COUNTER_LIMIT ≤ contents.current.number + 1)
-    reached more exhausts few own = grind (arith, exhausts, takes.own)
+    reached more exhausts few own =
+        let serving : contents.current.role ≢ role.Newcomer = λ newcomer. newcomer_serves (sym newcomer ∙ engine.contents_at.role_is ∙ serves) in
+        grind (arith, exhausts, takes.own, serving)
 
 -- the engine refused to commit: a fence failed, or a counter is at its limit
 pub commit-ends : (holder : Holder) (w : World) (remote : ℕ) (old : Committing) (lists : List FreeList) (group : Group) (new : Committing) (device device' : State) (contents : Contents) (is_faulted : Bool)
@@ -259,9 +263,9 @@ pub commit-ends : (holder : Holder) (w : World) (remote : ℕ) (old : Committing
     → (IsErrOf result Fault → (is_faulted ≡ true) ⊎ (device.failures < device'.failures)) → (IsErrOf result Exhausted → Exhausts contents group × (device' ≡ device))
     → (is_faulted ≡ false → Exhausts contents group → result ≡ Err Exhausted)
     → (is_faulted ≡ false → LeavesOnly device device' (λ image. Keeps contents image ⊎ Keeps (made remote contents group) image))
-    → CommittingRefines w.primary.calls old w.primary.committer → EngineStands holder w.primary.calls w.primary.committer.position device contents is_faulted
+    → holder.role ≡ role.Primary → CommittingRefines w.primary.calls old w.primary.committer → EngineStands holder w.primary.calls w.primary.committer.position device contents is_faulted
     → EndsBy refusal Commit (λ last _. last holder w.primary.calls w.primary.committer.position (next_primary w) device device')
-commit-ends holder w remote old lists group new device device' contents is_faulted result refusal is takes causes fault exhausted exhausts moments stands engine =
+commit-ends holder w remote old lists group new device device' contents is_faulted result refusal is takes causes fault exhausted exhausts moments serves stands engine =
     by (subst (λ (r : Result Done Refusal). IfErr r (λ e. (e ≡ Fault) ⊎ (e ≡ Exhausted))) is causes)
   where
     rose : (is_faulted ≡ true) ⊎ (device.failures < device'.failures) → device.failures < device'.failures
@@ -281,7 +285,7 @@ commit-ends holder w remote old lists group new device device' contents is_fault
         (record {
           rests = rests-same holder w.primary.calls w.primary.committer.position device device' told.1 (Opens-engine holder w.primary.calls w.primary.committer.position device contents is_faulted engine);
           limit = subst (λ (d : State). (image : Image) → IsImage d.words image → IsAtLimit holder.lines (next_primary w - w.primary.committer.position) (next_primary w - w.primary.committer.position) image) (sym told.1)
-              (commit-limit holder w old lists group new device contents is_faulted takes told.0 stands engine);
+              (commit-limit holder w old lists group new device contents is_faulted takes told.0 serves stands engine);
         })
 
 -- ---- a group shown

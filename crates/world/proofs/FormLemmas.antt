@@ -80,12 +80,12 @@ all-fresh lines room fresh lines_free entries_free =
     record { lines_free = lines_free; entries_free = entries_free; end_line = ap (λ (r : Room). r.end_line) fresh; end_entry = ap (λ (r : Room). r.end_entry) fresh }
 
 -- nothing is out of it
-pub out-fresh : (lines : ℕ) (role : Role) (contents : Contents) (room : Room) → IsNew lines role contents → room ≡ fresh_room (first_extent_line lines) lines (entries_of_lines LAYOUT lines) → HasOut contents room 0
+pub out-fresh : (lines : ℕ) (role : Role) (contents : Contents) (room : Room) → IsNew lines role FIRST_EPOCH contents → room ≡ fresh_room (first_extent_line lines) lines (entries_of_lines LAYOUT lines) → HasOut contents room 0
 out-fresh lines role contents room new fresh = subst (λ (r : Room). HasOut contents r 0) (sym fresh) (fresh-has_out contents LAYOUT lines new.layout new.line_count new.versions)
 
-pub underlies-new : (lines : ℕ) (role : Role) (contents : Contents) (table : Table) (room : Room) → IsNew lines role contents → HasAll lines room → table ≡ [] → Underlies contents table room 0 FIRST_EPOCH
+pub underlies-new : (lines : ℕ) (role : Role) (contents : Contents) (table : Table) (room : Room) → IsNew lines role FIRST_EPOCH contents → HasAll lines room → table ≡ [] → Underlies contents table room 0 FIRST_EPOCH
 underlies-new lines role contents table room new all empty =
-    record { position_is = sym new.position; epoch_is = sym new.epoch; left = left-new lines role contents room new all; table_is = new-table lines role contents table new empty }
+    record { position_is = sym new.position; epoch_is = sym new.epoch; left = left-new lines role FIRST_EPOCH contents room new all; table_is = new-table lines role FIRST_EPOCH contents table new empty }
 
 -- a device that was formatted is of a size that an image may have
 pub formatted-size : {T E : Type 0} {engine : T} {refused : E} (lines : ℕ) → ((lines < MIN_LINES) ⊎ (MAX_LINES < lines) → Ok engine ≡ Err refused) → (MIN_LINES ≤ lines) × (lines ≤ MAX_LINES)
@@ -97,7 +97,7 @@ formatted-size {T} {E} {engine} {refused} lines wrong = (not_below lines MIN_LIN
     not_below : (m n : ℕ) → (m < n → ⊥) → n ≤ m
     not_below m n never = elim (cases_lt m n) [ inl below ↦ absurd (never below) | inr above ↦ above ]
 
-pub engine-new : (lines : ℕ) (role : Role) (device : State) (contents : Contents) (is_faulted : Bool) → MIN_LINES ≤ lines → lines ≤ MAX_LINES → IsNew lines role contents → IsDurable device contents → is_faulted ≡ false
+pub engine-new : (lines : ℕ) (role : Role) (device : State) (contents : Contents) (is_faulted : Bool) → MIN_LINES ≤ lines → lines ≤ MAX_LINES → IsNew lines role FIRST_EPOCH contents → IsDurable device contents → is_faulted ≡ false
     → EngineStands (new_holder lines role) [] 0 device contents is_faulted
 engine-new lines role device contents is_faulted many few new durable sound =
     record {
@@ -106,29 +106,30 @@ engine-new lines role device contents is_faulted many few new durable sound =
         role_is = new.role_is;
         epoch_is = new.epoch;
         lines_are = new.line_count;
-        consistent = new-consistent lines role contents new;
+        consistent = new-consistent lines role FIRST_EPOCH contents new;
         map = IsMapOf-none contents.versions (entries_of contents) (λ i within. new.versions i);
       };
-      lawful = new_lawful lines role contents new many few;
+      lawful = new_lawful lines role FIRST_EPOCH contents new many few (omega arith) (omega arith);
       sound = sound;
       durable = durable;
     }
 
-pub standby-new : (lines epoch : ℕ) (role : Role) (node : Node) → MIN_LINES ≤ lines → lines ≤ MAX_LINES → IsNew lines role node.contents → IsDurable node.device node.contents → node.is_faulted ≡ false
-    → HasAll lines node.room → node.table ≡ [] → node.ended ≡ [] → node.epoch ≡ epoch → epoch ≡ FIRST_EPOCH → StandbyStands (new_holder lines role) epoch [] 0 node
-standby-new lines epoch role node many few new durable sound all empty none same first =
+pub standby-new : (lines epoch : ℕ) (role : Role) (node : Node) → MIN_LINES ≤ lines → lines ≤ MAX_LINES → IsNew lines role FIRST_EPOCH node.contents → IsDurable node.device node.contents → node.is_faulted ≡ false
+    → HasAll lines node.room → node.table ≡ [] → node.ended ≡ [] → node.epoch ≡ epoch → epoch ≡ FIRST_EPOCH → role ≡ Role.Standby → StandbyStands (new_holder lines role) epoch [] 0 node
+standby-new lines epoch role node many few new durable sound all empty none same first standby =
     record {
       engine = engine-new lines role node.device node.contents node.is_faulted many few new durable sound;
-      follows = subst (Follows node.contents node.table node.room) (sym none) (follows-new lines role node.contents node.table node.room new all empty);
+      follows = subst (Follows node.contents node.table node.room) (sym none) (follows-new lines role FIRST_EPOCH node.contents node.table node.room new all empty);
       table = ap records empty;
       epoch_is = same;
       epoch_held = first;
+      role_held = standby;
     }
 
 -- contents that are new for a role are new for the role that they say
-pub new-own : (lines lines' : ℕ) (role : Role) (contents : Contents) → lines ≡ lines' → IsNew lines role contents → IsNew lines' contents.current.role contents
+pub new-own : (lines lines' : ℕ) (role : Role) (contents : Contents) → lines ≡ lines' → IsNew lines role FIRST_EPOCH contents → IsNew lines' contents.current.role FIRST_EPOCH contents
 new-own lines lines' role contents same new =
-    subst (λ n. IsNew n contents.current.role contents) same
+    subst (λ n. IsNew n contents.current.role FIRST_EPOCH contents) same
     (search (rules, new))
 
 -- where there is no connection, no seat has anything to follow
@@ -208,7 +209,7 @@ pair-starts first second pair sessions sequencer none_ended none none_aside read
 
 -- a device that was not formatted yet
 pub formatting-none : (role : Role) (device : State) → FormattingOnly role device device
-formatting-none role device = none_leaves device (IsFormatting device.words device.lines role) (λ image is. inl is)
+formatting-none role device = none_leaves device (IsFormatting device.words device.lines role FIRST_EPOCH) (λ image is. inl is)
 
 -- ---- why it was not formatted
 

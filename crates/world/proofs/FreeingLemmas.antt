@@ -1,6 +1,6 @@
 -- What freeing, and clearing a gap, leave of the primary's engine.
 use mathlib.Core.Path.{fun_ext}
-use Rattle.std.proofs.Common.{rules, arith, ◌≡◌, ◌⊎◌, ◌+◌, ◌<◌, ℕ, inl, inr, Bool, true, false, ◌||◌, List, refl, sym, ap, subst, ◌∙◌, true≢false, []}
+use Rattle.std.proofs.Common.{rules, arith, ◌≡◌, ◌⊎◌, ◌+◌, ◌<◌, ◌≤◌, ℕ, inl, inr, Bool, true, false, ◌||◌, List, refl, sym, ap, subst, ◌∙◌, true≢false, []}
 use Rattle.std.proofs.lemmas.Bool.{cases_lt}
 use Rattle.std.specs.List.{IsDistinct}
 use Rattle.kv_types.specs.declared.place.EntryNo.{EntryNo}
@@ -10,6 +10,7 @@ use Rattle.pmem.proofs.Leaving.{LeavesOnly-weaken}
 use Rattle.model.specs.declared.call.Call.{Call}
 use Rattle.model.specs.declared.image.TheConstants.{COUNTER_LIMIT}
 use Rattle.model.specs.declared.record.Record.{Record}
+use Rattle.model.specs.declared.record.Role.TheVariants as role
 use Rattle.model.specs.Call.{cut_at, keyspace_after}
 use Rattle.model.specs.Floor.{floor_raised}
 use Rattle.model.specs.Group.{AreEnded, Contents, Versions, after_free, without, entries_of}
@@ -29,12 +30,18 @@ use Rattle.machine.specs.Event.{World, Happens, may_happen, torn}
 use Rattle.world.specs.Committing.{AreContentsAt, EngineStands, OpensAt, OpensAtEither, NearOnly}
 use Rattle.world.specs.Pair.{Lives, Pair, PairRefines, PartsRefine, Steps}
 use Rattle.world.proofs.RemainLemmas.{near-from}
+use Rattle.world.proofs.RoleLemmas.{newcomer_or, newcomer_serves}
 use Rattle.world.proofs.PairLemmas.{moves-primary, does-step, steps-to}
 use Rattle.world.proofs.EngineLemmas.{keeps-opens}
 use Rattle.world.proofs.LivesLemmas.{Runs, SameLives, enabled-is, is_own, lives-like, own-runs, nodes-refine}
 use Rattle.world.specs.Condition as condition
 
 -- ---- the engine
+
+-- of a primary's record it is a counter
+pub primary-limit : (r : Record) → r.role ≡ role.Primary → (COUNTER_LIMIT ≤ r.number + 1) ⊎ (r.role ≡ role.Newcomer) → COUNTER_LIMIT ≤ r.number + 1
+primary-limit r primary (inl number) = number
+primary-limit r primary (inr newcomer) = absurd (newcomer_serves (sym newcomer ∙ primary))
 
 -- the contents are as they were at their position, without some versions that have ended
 pub contents-without : (holder : Holder) (calls : List Call) (p : ℕ) (contents : Contents) (gone : ℕ → Bool) → AllEnded gone contents.versions → AreContentsAt holder calls p contents
@@ -43,12 +50,15 @@ contents-without holder calls p contents gone ended are =
     let map = IsMapOf-contents_without contents gone _ ended are.map in
     search (rules, consistent_without contents gone are.consistent, map, are)
 
--- a counter of the record would reach the limit, or not
+-- a counter of the record would reach the limit, or the record is a newcomer's; or not
 pub raising-limit : (floor : ℕ) (r : Record) → ExhaustsRaising floor r ⊎ (¬ ExhaustsRaising floor r)
 raising-limit floor r = elim (cases_lt r.floor floor) [
   | inl rises ↦ elim (cases_lt (r.number + 1) COUNTER_LIMIT) [
-    | inl below ↦ inr (λ reached. omega (arith, below, reached.1))
-    | inr full ↦ inl (rises, full)
+    | inl below ↦ elim (newcomer_or r.role) [
+      | inl newcomer ↦ inl (rises, inr newcomer)
+      | inr other ↦ inr (λ reached. elim reached.1 [ inl full ↦ omega (arith, below, full) | inr newcomer ↦ other newcomer ])
+    ]
+    | inr full ↦ inl (rises, inl full)
   ]
   | inr stays ↦ inr (λ reached. omega (arith, stays, reached.0))
 ]

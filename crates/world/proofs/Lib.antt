@@ -3,6 +3,7 @@ pub mod EngineLemmas
 pub mod DownLemmas
 pub mod CutLemmas
 pub mod RemainLemmas
+pub mod RoleLemmas
 pub mod CommittingLemmas
 pub mod WireLemmas
 pub mod FrameLemmas

@@ -107,6 +107,7 @@ standby-failing old n follows = record { steps = steps; cut = tt; calls = none-a
           table = stood.table;
           epoch_is = stood.epoch_is;
           epoch_held = stood.epoch_held;
+          role_held = stood.role_held;
         } in
         let refined : StandbyRefines second old.wire.link.epoch calls p (torn w.standby.life) node' old.lives.standby =
         record {

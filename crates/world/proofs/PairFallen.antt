@@ -303,6 +303,7 @@ comes-forward old node' call k picks new found r fallen finds is_found own comes
 which : (own : Role) → (own ≡ role.Primary) ⊎ (own ≢ role.Primary)
 which role.Primary = inl refl
 which role.Standby = inr (λ is. apart is)
+which role.Newcomer = inr (λ is. cc)
 
 pub goes-by-image : (old : Pair) (node' : Node) (call : Cut) (k : ℕ) (picks : Vec ℕ Global) (new : Pair) → HasFallen old call k picks node'.device → GoesByImage (record old { standby = node' }) new
     → Cuts old (events.Crash node.Standby call k picks) (Ok true) new

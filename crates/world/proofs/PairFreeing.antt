@@ -57,7 +57,7 @@ use Rattle.world.proofs.EngineLemmas.{Opens-engine}
 use Rattle.world.proofs.PairLemmas.{Led, cut-for, cut-same, none-added, rests-running, rests-standby, stays-does, tells}
 use Rattle.world.proofs.QueueLemmas.{free-disabled, free-enabled, reached-positions, room-link}
 use Rattle.world.proofs.PairTurns.{Took, Waiting-same, pair_of, pair_with}
-use Rattle.world.proofs.FreeingLemmas.{contents-raised, contents-without, engine-freed, freed-moments, primary-steps, raising-limit, stays-near}
+use Rattle.world.proofs.FreeingLemmas.{contents-raised, contents-without, engine-freed, freed-moments, primary-limit, primary-steps, raising-limit, stays-near}
 use Rattle.world.specs.Remaining.{LeftBy}
 use Rattle.world.proofs.LeftLemmas.{left-running, left-still, left-there}
 use Rattle.world.proofs.RecallLemmas.{remembered-from, remembers-raised, remembers-renumbered}
@@ -283,7 +283,7 @@ module _ {E : Type 0} (device : E → State) (contents : E → Contents) (is_fau
               let told = frees.frees.exhausted (ap Err limit) in
               let same : new.primary.device ≡ old.primary.device = ap device told.1 in
               let at : (image : Image) → IsImage old.primary.device.words image → IsAtLimit first.lines (next_primary w - w.primary.committer.position) (next_primary w - w.primary.committer.position) image =
-              λ image is. record { current = old.primary.contents.current; has_record = HasRecord-lines stands.parts.engine.contents_at.lines_are (stands.parts.engine.durable image is).has_record; reached = inr (inr told.0.1) } in
+              λ image is. record { current = old.primary.contents.current; has_record = HasRecord-lines stands.parts.engine.contents_at.lines_are (stands.parts.engine.durable image is).has_record; reached = inr (inr (primary-limit old.primary.contents.current (stands.parts.engine.contents_at.role_is ∙ (nodes-refine stands).lives.first_role) told.0.1)) } in
               cut-for first second events.Free refusal old new w (nodes-refine stands) (tells pair.clients.transcript) refl (enabled-is (own-runs stands events.Free refl) ∙ free_may first second w stands)
               (subst (λ (r : Refusal). EndsBy r events.Free (Led first second old new w)) (sym limit) (
                 inl (subst (λ (d : State). RestsAtLimit first w.primary.calls w.primary.committer.position (next_primary w) old.primary.device d) (sym same)

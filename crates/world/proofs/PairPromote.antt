@@ -105,7 +105,7 @@ module _ (old : Pair) (fenced : has_ended old.lives.primary ≡ true) (follows :
           let told = told-as stands.parts in
           let p = w.standby.position in
           let next = next_standby w in
-          let ends = not-promoted-ends second w.primary.calls p next old.standby.device node'.device old.standby.contents old.standby.is_faulted refusal stood.engine (was first second w stands) in
+          let ends = not-promoted-ends second w.primary.calls p next old.standby.device node'.device old.standby.contents old.standby.is_faulted refusal stood.engine stood.role_held (was first second w stands) in
           record {
             enabled = promote-enabled stands.lives fenced follows;
             calls = told.calls;

@@ -100,6 +100,7 @@ standby-reopens old node' fallen opened follows own = record { steps = steps; cu
           table = table-there second calls p node'.contents node'.table at follows.table_is;
           epoch_is = own ∙ at.epoch_is ∙ ours;
           epoch_held = sym ours;
+          role_held = lives.second_role;
         } in
         let w' = with_standby (reopened_standby w.standby) w in
         let refined : StandbyRefines second old.wire.link.epoch calls p [] node' Running = record { stands = λ up. stood; left = λ is. absurd (true≢false (sym is)); down = λ is. absurd (true≢false (sym is)) } in

@@ -223,7 +223,7 @@ module _ {E : Type 0} (device : E → State) (contents : E → Contents) (is_fau
             (λ last broken. (inl broken, rests-standby first second old w (nodes-refine stands)))
             (commit-ends first w pair.wire.remote old.primary.committing took.lists took.group new.primary.committing old.primary.device new.primary.device old.primary.contents old.primary.is_faulted (Err refusal) refusal refl takes
             commits.causes commits.fault (λ cause. let told = commits.exhausted cause in (told.0, ap (λ (e : E). device e) told.1))
-            commits.exhausts commits.moments parts.committing parts.engine));
+            commits.exhausts commits.moments (nodes-refine stands).lives.first_role parts.committing parts.engine));
         calls = none-added _ _ refl;
       }
 

@@ -21,6 +21,7 @@ use Rattle.group_commit.proofs.GroupsLemmas.{Same-is}
 use Rattle.wbl_engine.specs.Contents.{IsDurable, Same}
 use Rattle.wbl_engine.specs.Lawful.{AreLawful}
 use Rattle.wbl_engine.specs.Promoting.{ExhaustsPromotion, promoted as promoted_contents}
+use Rattle.wbl_engine.specs.Reopening.{ExhaustsReopening}
 use Rattle.wbl_engine.proofs.PromotingLemmas.{consistent_promoted, lawful_promoted}
 use Rattle.failover.specs.Promoting.{IsBeforeOrPromoted}
 use Rattle.machine.specs.Event.{Frame as Sent, Role}
@@ -34,6 +35,7 @@ use Rattle.world.proofs.EngineLemmas.{Opens-engine}
 use Rattle.world.proofs.KeptLemmas.{KeepsAsEither, engine-keeps, restart-promoted}
 use Rattle.world.proofs.OpenedLemmas.{IsNotOpened, StaysSo}
 use Rattle.world.proofs.RemainLemmas.{kept-opens}
+use Rattle.world.proofs.RoleLemmas.{newcomer_follows, newcomer_or}
 
 -- ---- the wire
 
@@ -117,11 +119,20 @@ either-keeps holder calls p device contents is_faulted stands fits image (inr af
 limit : (r : Record) → ExhaustsPromotion r ⊎ (¬ ExhaustsPromotion r)
 limit r = elim (cases_lt (r.number + 1) COUNTER_LIMIT) [
   | inl number ↦ elim (cases_lt (r.epoch + 1) COUNTER_LIMIT) [
-    | inl epoch ↦ inr (λ reached. elim reached [ inl full ↦ omega (arith, number, full) | inr full ↦ omega (arith, epoch, full) ])
-    | inr reached ↦ inl (inr reached)
+    | inl epoch ↦ elim (newcomer_or r.role) [
+      | inl newcomer ↦ inl (inr (inr newcomer))
+      | inr other ↦ inr (λ reached. elim reached [ inl full ↦ omega (arith, number, full) | inr (inl full) ↦ omega (arith, epoch, full) | inr (inr newcomer) ↦ other newcomer ])
+    ]
+    | inr reached ↦ inl (inr (inl reached))
   ]
   | inr reached ↦ inl (inl reached)
 ]
+
+-- of a standby's record it is a counter
+standby-limit : (r : Record) → r.role ≡ role.Standby → ExhaustsPromotion r → (COUNTER_LIMIT ≤ r.number + 1) ⊎ ((COUNTER_LIMIT ≤ r.epoch + 1) ⊎ ExhaustsReopening r)
+standby-limit r standby (inl number) = inl number
+standby-limit r standby (inr (inl epoch)) = inr (inl epoch)
+standby-limit r standby (inr (inr newcomer)) = absurd (newcomer_follows (sym newcomer ∙ standby))
 
 -- So does each image of the call, whatever it answers: where a counter is at its limit, nothing was done.
 pub promotion-keeps : (holder : Holder) (calls : List Call) (p : ℕ) (old new : State) (contents : Contents) (is_faulted : Bool) → EngineStands holder calls p old contents is_faulted
@@ -203,7 +214,7 @@ module _ (holder : Holder) (calls : List Call) (p : ℕ) (old between new : Stat
                 current = record_is.0;
                 has_record = λ image is.
                     subst (HasRecord holder.lines record_is.0) (sym (settled-image new.words image down.settled (subst (λ (d : State). IsImage d.words image) why.1 is))) record_is.1;
-                limit = inr record_is.2;
+                limit = inr (inr record_is.2);
               })
         ]
       ]
@@ -231,8 +242,8 @@ not-promoted-keeps holder calls p old new contents is_faulted refusal stands was
 )
 
 pub not-promoted-ends : (holder : Holder) (calls : List Call) (p next : ℕ) (old new : State) (contents : Contents) (is_faulted : Bool) (refusal : Refusal) → EngineStands holder calls p old contents is_faulted
-    → WasNotPromoted old new contents is_faulted refusal → Promoting refusal holder calls p next old new
-not-promoted-ends holder calls p next old new contents is_faulted refusal stands was = elim was.causes [
+    → holder.role ≡ role.Standby → WasNotPromoted old new contents is_faulted refusal → Promoting refusal holder calls p next old new
+not-promoted-ends holder calls p next old new contents is_faulted refusal stands follows was = elim was.causes [
   | inl fault ↦
       let it = not-promoted-keeps holder calls p old new contents is_faulted refusal stands was fault in
       subst (λ (r : Refusal). Promoting r holder calls p next old new) (sym fault) (record { leaves = LeavesOnly-weaken (OpensAsEither holder calls p) (either-kept holder calls p) it.0; failures = it.1 })
@@ -244,7 +255,7 @@ not-promoted-ends holder calls p next old new contents is_faulted refusal stands
         rests = record { leaves = none_leaves old (OpensAsEither holder calls p) (λ image is. inl (Opens-engine holder calls p old contents is_faulted stands image is)); failures = refl };
         current = contents.current;
         has_record = λ image is. HasRecord-lines stands.contents_at.lines_are (stands.durable image is).has_record;
-        limit = inl why.0;
+        limit = standby-limit contents.current (stands.contents_at.role_is ∙ follows) why.0;
       }))
 ]
 

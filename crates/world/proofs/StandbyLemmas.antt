@@ -37,6 +37,7 @@ use Rattle.world.specs.Remaining.{KeepsAt, KeepsOne}
 use Rattle.world.specs.Standby.{Node, StandbyStands, node_at, told_by}
 use Rattle.world.proofs.KeptLemmas.{EngineStands-kept, engine-keeps, keeps-here, keeps-next, near-kept}
 use Rattle.world.proofs.RemainLemmas.{kept-opens}
+use Rattle.world.proofs.RoleLemmas.{newcomer_follows}
 use Rattle.node_steps.proofs.EngineLemmas.{EngineStands-grows}
 use Rattle.world.proofs.EngineLemmas.{Opens-engine, moves-same, rests-same}
 
@@ -210,7 +211,7 @@ module _ {E K D : Type 0} (device : E → State) (contents : E → Contents) (is
         map = subst (IsMapOf new.contents.versions (entries_of new.contents)) now
             (map-from_table new.contents.versions (entries_of new.contents) new.table follows.consistent.beyond follows.table_is);
       } in
-      search (rules, contents_at, follows, now, sound, durable, lawful, epoch_stays ∙ stands.epoch_is, stands.epoch_held)
+      search (rules, contents_at, follows, now, sound, durable, lawful, epoch_stays ∙ stands.epoch_is, stands.epoch_held, stands.role_held)
 
   -- the whole frame was taken
   taken_stands : span.before ≡ machine.position → HasTaken frame old.contents new.contents old.table new.table → Follows new.contents new.table new.room new.ended → new.is_faulted ≡ false
@@ -413,10 +414,12 @@ module _ {E K D : Type 0} (device : E → State) (contents : E → Contents) (is
       reached more some (inl stamps) = inl stamps
       reached more some (inr (inl position)) = inr (inl (omega (arith, position, some.1)))
       reached more some (inr (inr (inl number))) = inr (inr number)
-      reached more some (inr (inr (inr epoch))) =
+      reached more some (inr (inr (inr (inl epoch)))) =
           let same : frame.epoch ≡ old.contents.current.epoch = is.epoch_is ∙ stands.epoch_held ∙ sym stands.engine.contents_at.epoch_is in
           let rises = epoch.0 in
           absurd (omega (arith, same, rises))
+      reached more some (inr (inr (inr (inr newcomer)))) =
+          absurd (newcomer_follows (sym newcomer ∙ stands.engine.contents_at.role_is ∙ stands.role_held))
 
   -- a frame that it refused, and did not go on: memory was refused, a fence failed, or a counter is at its limit
   pub frame-ends : (refusal : Refusal) → ¬ GoesOn refusal → Answered (Err refusal)
@@ -464,6 +467,7 @@ StandbyStands-kept holder epoch calls p old new keeps contents faulted table roo
       table = ap records table ∙ stands.table;
       epoch_is = own ∙ stands.epoch_is;
       epoch_held = stands.epoch_held;
+      role_held = stands.role_held;
     }
 
 -- ---- the list of calls grows

@@ -16,7 +16,6 @@ use Rattle.machine.specs.Event.{Remains}
 use Rattle.machine.specs.Row.{EachPosition, Limit, OneStamp, Reopening, row}
 use Rattle.wbl_engine.specs.Reopening.{ExhaustsReopening}
 use Rattle.pmem.specs.Runs.{LeavesOnly}
-use Rattle.wbl_engine.specs.Promoting.{ExhaustsPromotion}
 use Rattle.world.specs.Committing.{OpensAsEither, Rests, NearOnly}
 use Rattle.world.specs.Remaining.{Remain}
 
@@ -131,7 +130,7 @@ pub record LimitsPromotion (holder : Holder) (calls : List Call) (position : ℕ
   pub rests : RestsAsEither holder calls position old new
   pub current : Record
   pub has_record : (image : Image) → IsImage new.words image → HasRecord holder.lines current image
-  pub limit : ExhaustsPromotion current ⊎ ExhaustsReopening current
+  pub limit : (COUNTER_LIMIT ≤ current.number + 1) ⊎ ((COUNTER_LIMIT ≤ current.epoch + 1) ⊎ ExhaustsReopening current)
 
 -- A promotion ended the run for this cause, with this effect on the standby's device.
 abbrev pub Promoting : Refusal → Stretch

@@ -11,6 +11,7 @@ use Rattle.model.specs.declared.work.Work.{Work}
 use Rattle.model.specs.Group.{Contents}
 use Rattle.model.specs.Standing.{Holder, StandsAt}
 use Rattle.model.specs.declared.record.Role.{Role}
+use Rattle.model.specs.declared.record.TheConstants.{FIRST_EPOCH}
 use Rattle.wbl_engine.specs.Contents.{Keeps}
 use Rattle.wbl_engine.specs.Formatting.{IsFormatting}
 use Rattle.wbl_engine.specs.Lawful.{AreLawful, IsUndamaged}
@@ -77,9 +78,9 @@ promoted_holder holder = record holder { role = Role.Primary; epoch = holder.epo
 abbrev pub OpensAsEither : Holder → List Call → ℕ → Image → Type 0
 OpensAsEither holder calls position image = OpensAt holder calls position image ⊎ OpensAt (promoted_holder holder) calls position image
 
--- each crash between these two states of a device leaves what is there while it is formatted for this role
+-- each crash between these two states of a device leaves what is there while it is formatted for this role, under the first epoch
 abbrev pub FormattingOnly : Role → State → State → Type 0
-FormattingOnly role old new = LeavesOnly old new (IsFormatting old.words old.lines role)
+FormattingOnly role old new = LeavesOnly old new (IsFormatting old.words old.lines role FIRST_EPOCH)
 
 -- ---- the committer
 

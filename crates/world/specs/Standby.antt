@@ -6,6 +6,7 @@ use Rattle.pmem.specs.Device.{State}
 use Rattle.kv_types.specs.declared.place.EntryNo.{EntryNo}
 use Rattle.extent_heap.specs.Room.{Room}
 use Rattle.model.specs.declared.call.Call.{Call}
+use Rattle.model.specs.declared.record.Role.TheVariants as Role
 use Rattle.model.specs.Call.{keyspace_after, cut_at}
 use Rattle.model.specs.Group.{Contents}
 use Rattle.model.specs.Standing.{Holder}
@@ -38,13 +39,14 @@ abbrev pub node_at : State → Contents → Bool → Table → Room → List Ent
 node_at device contents is_faulted table room ended =
     record { device = device; contents = contents; is_faulted = is_faulted; table = table; room = room; ended = ended; epoch = contents.current.epoch }
 
--- the standby of this epoch, which is that of its image, holds the list up to this position
+-- the standby of this epoch, which is that of its image, holds the list up to this position; it is no newcomer
 pub record StandbyStands (holder : Holder) (epoch : ℕ) (calls : List Call) (position : ℕ) (node : Node) : Type 0 where
   pub engine : EngineStands holder calls position node.device node.contents node.is_faulted
   pub follows : Follows node.contents node.table node.room node.ended
   pub table : records node.table ≡ keyspace_after (cut_at calls position)
   pub epoch_is : node.epoch ≡ epoch
   pub epoch_held : epoch ≡ holder.epoch
+  pub role_held : holder.role ≡ Role.Standby
 
 -- The same of one that runs; of one that stopped what each crash leaves of it, where a fence that failed left these; and of one that is crashed what its image is. Of one that was promoted
 -- nothing.

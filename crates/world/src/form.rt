@@ -67,8 +67,8 @@ fn make_between<K: Keyspace + Drop>(
     ensures none_sent { IfOk result (λ between. (between.history.frames.items ≡ []) × (between.history.acknowledgements.items ≡ [])) }
     ensures room { IfOk result (λ between. calls ≤ vec_capacity between.history.transcript.calls) }
     ensures sequencer { IfOk result (λ between. SequencerRefines [] 0 between.sequencer) }
-    ensures underlies { IfOk result (λ between. (contents : Contents) → IsNew lines.0 contents.current.role contents → IsAheadOf between.sequencer contents) }
-    ensures expects { IfOk result (λ between. (contents : Contents) → IsNew lines.0 contents.current.role contents → Expects between.sequencer contents [] []) }
+    ensures underlies { IfOk result (λ between. (contents : Contents) → IsNew lines.0 contents.current.role FIRST_EPOCH contents → IsAheadOf between.sequencer contents) }
+    ensures expects { IfOk result (λ between. (contents : Contents) → IsNew lines.0 contents.current.role FIRST_EPOCH contents → Expects between.sequencer contents [] []) }
     ensures ended { IfOk result (λ between. (between.sequencer.ended ≡ []) × (between.sequencer.newest ≡ 0)) }
     ensures no_work { IfOk result (λ between. between.work.items ≡ []) }
     ensures link { IfOk result (λ between. between.outgoing.link ≡ new_stream FIRST_EPOCH) }
@@ -108,8 +108,8 @@ fn new_sequencer<K: Keyspace + Drop>(
 ) -> Result<Sequencer<K>, Refusal>
     requires { K.table keyspace ≡ [] }
     ensures begins { IfOk result (λ sequencer. SequencerRefines [] 0 sequencer) }
-    ensures underlies { IfOk result (λ sequencer. (contents : Contents) → IsNew lines contents.current.role contents → IsAheadOf sequencer contents) }
-    ensures expects { IfOk result (λ sequencer. (contents : Contents) → IsNew lines contents.current.role contents → Expects sequencer contents [] []) }
+    ensures underlies { IfOk result (λ sequencer. (contents : Contents) → IsNew lines contents.current.role FIRST_EPOCH contents → IsAheadOf sequencer contents) }
+    ensures expects { IfOk result (λ sequencer. (contents : Contents) → IsNew lines contents.current.role FIRST_EPOCH contents → Expects sequencer contents [] []) }
     ensures ended { IfOk result (λ sequencer. (sequencer.ended ≡ []) × (sequencer.newest ≡ 0)) }
     ensures cause { IfErr result (λ refusal. refusal ≡ Refusal.Memory) }
 {
@@ -224,11 +224,11 @@ fn form<P: Crashing, K: Keyspace + Drop>(
         Ok(between) => between,
         Err(refusal) => return Err((refusal, primary, standby)),
     };
-    let engine = match WblEngine::format(primary, Role::Primary) {
+    let engine = match WblEngine::format(primary, Role::Primary, FIRST_EPOCH) {
         Ok(engine) => engine,
         Err((refusal, primary)) => return Err((refusal, primary, standby)),
     };
-    match WblEngine::format(standby, Role::Standby) {
+    match WblEngine::format(standby, Role::Standby, FIRST_EPOCH) {
         Ok(follower) => Ok((
             Pair {
                 alloc,

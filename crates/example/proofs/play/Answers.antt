@@ -1,18 +1,16 @@
 use Rattle.std.proofs.Common.{◌≡◌, subst, [], List}
-use Rattle.connections.specs.Session.{released_of}
 use Rattle.machine.specs.declared.event.Event.{Event}
 use Rattle.pmem.specs.Device.{State}
 use Rattle.pmem.specs.declared.sim.SimPmem.{SimPmem}
 use Rattle.pmem.specs.Sim.{state_of, fresh}
 use Rattle.world.specs.declared.trace.Trace.{Trace}
-use Rattle.world.specs.Headline.{KeepsItsWord}
+use Rattle.world.specs.Headline.{KeepsItsWord, devices_of, given_by}
 use Rattle.example.proofs.play.Goals as goal
 
 -- a run over devices in these states, which leaves these, keeps its word
 abbrev KeepsFrom : List Event → Trace SimPmem → SimPmem → SimPmem → State → State → Type 0
 KeepsFrom events trace primary' standby' primary standby =
-    KeepsItsWord events trace.ended trace.done.items trace.history.transcript.calls.items (released_of trace.history.transcript) trace.history.frames.items
-    trace.history.acknowledgements.items primary standby (state_of primary') (state_of standby')
+    KeepsItsWord events trace.ended (given_by trace.done.items trace.history) (devices_of primary standby) (devices_of (state_of primary') (state_of standby'))
 
 pub returns : goal.returns
 returns c =

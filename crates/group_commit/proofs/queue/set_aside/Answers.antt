@@ -1,36 +1,11 @@
-use Rattle.std.proofs.Common.{ap, refl, length, arith}
-use Rattle.group_commit.proofs.TakingLemmas.{Taken-none, Taken-push, Taken-group, Taken-all, none-left-over, from-same}
+use Rattle.std.proofs.Common.{arith}
+use Rattle.group_commit.proofs.TakingLemmas.{from-same, none-comes}
 use Rattle.group_commit.proofs.queue.set_aside.Goals as goal
 
-pub loop-init : goal.loop-init
-loop-init c = record {
-  taken = Taken-none c.args.work.now.items c.reserve.new.self.items;
-  room = omega (arith, c.in_ok-reserve.ensures.ok, c.len.ensures, c.reserve.ensures.len);
-}
+pub take_group-requires : goal.take_group-requires
+take_group-requires c = record { room = omega (arith, c.in_ok-reserve.ensures.ok, c.len.ensures, c.reserve.ensures.len) }
 
-pub returns-in-Some-Commit-clause-came : goal.returns-in-Some-Commit-clause-came
-returns-in-Some-Commit-clause-came c =
+pub returns-clause-all : goal.returns-clause-all
+returns-clause-all c =
     from-same c.reserve.ensures.items
-    (Taken-group c.args.work.now.items c.loop.work.items c.take.new.self.items c.reserve.new.self.items c.loop.aside.items c.loop.aside.items c.loop.counter c.in-Some-Commit.group c.loop.invariant.taken
-    (rw c.in-Some-Commit.field-0-is at c.in-Some-Commit.ensures) refl)
-
-pub push_back_reserved-requires : goal.push_back_reserved-requires
-push_back_reserved-requires c = let some = ap length c.in-Some-Free.ensures in omega (arith, c.loop.invariant.room, some)
-
-pub returns-in-None-clause-came : goal.returns-in-None-clause-came
-returns-in-None-clause-came c =
-    from-same c.reserve.ensures.items
-    (Taken-all c.args.work.now.items c.loop.work.items c.take.new.self.items c.reserve.new.self.items c.loop.aside.items c.loop.counter c.loop.invariant.taken c.in-None.ensures.0 c.in-None.ensures.1)
-
-pub loop-preserved : goal.loop-preserved
-loop-preserved c = record {
-  taken = Taken-push c.args.work.now.items c.loop.work.items c.take.new.self.items c.reserve.new.self.items c.loop.aside.items c.push_back_reserved.new.self.items c.loop.counter c.in-Some-Free.list c.loop.invariant.taken
-      (rw c.in-Some-Free.field-0-is at c.in-Some-Free.ensures) c.push_back_reserved.ensures.items;
-  room = let some = ap length c.in-Some-Free.ensures in omega (arith, c.loop.invariant.room, some, c.push_back_reserved.ensures.len, c.push_back_reserved.ensures.capacity);
-}
-
-pub returns-clause-came : goal.returns-clause-came
-returns-clause-came c =
-    let none = none-left-over c.args.work.now.items c.loop.work.items c.reserve.new.self.items c.loop.aside.items c.loop.counter 256 c.loop.invariant.taken c.args.work.now.within (omega (arith, c.loop-test.false)) in
-    from-same c.reserve.ensures.items
-    (Taken-all c.args.work.now.items c.loop.work.items c.loop.work.items c.reserve.new.self.items c.loop.aside.items c.loop.counter c.loop.invariant.taken none none)
+    (none-comes c.reserve.new.self.items c.args.work.now.items c.take_group.result c.take_group.new.aside.items c.take_group.new.work.items c.take_group.ensures.came c.requires.none)

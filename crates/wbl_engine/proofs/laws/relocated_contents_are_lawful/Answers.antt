@@ -5,7 +5,7 @@ pub returns-clause-lawful : goal.returns-clause-lawful
 returns-clause-lawful c = relocated_lawful
 
 pub returns-clause-map : goal.returns-clause-map
-returns-clause-map c contents part consistent asked = relocated_map consistent asked
+returns-clause-map c contents parts consistent asked = relocated_map consistent asked
 
 pub returns-clause-consistent : goal.returns-clause-consistent
-returns-clause-consistent c contents part consistent asked = relocated_consistent consistent asked
+returns-clause-consistent c contents parts consistent asked = relocated_consistent consistent asked

@@ -1,4 +1,4 @@
-use Rattle.std.proofs.Common.{◌∙◌, [], inl, inr}
+use Rattle.std.proofs.Common.{[], inl, inr}
 use Rattle.std.proofs.lemmas.Result.{on_ok_weaker, on_err_weaker}
 use Rattle.pmem.specs.Runs.{IsPartlyStored, LeavesOnly}
 use Rattle.wbl_record.proofs.Results.{on_both, on_err_from}

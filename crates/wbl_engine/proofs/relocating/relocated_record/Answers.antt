@@ -11,4 +11,4 @@ returns-then-number-lt-COUNTER_LIMIT-clause-lawful c =
       room = omega (arith, c.if-cd-lt-COUNTER_LIMIT.true);
       epoch = c.requires.lawful.epoch;
     })
-    refl refl (omega arith) (omega arith) (ap (λ gaps. gaps.items) c.copy_gaps.ensures) refl
+    refl refl (omega arith) (omega arith) (ap (λ gaps. gaps.items) c.copy_gaps.ensures) refl c.requires.lawful.newcomer

@@ -1,4 +1,5 @@
 use Rattle.std.proofs.Common.{refl, ap, arith}
+use Rattle.std.proofs.lemmas.Bool.{both_ways}
 use Rattle.wbl_engine.proofs.SuccessorLemmas.{lawful_later}
 use Rattle.wbl_engine.proofs.successor.next_record.Goals as goal
 
@@ -12,3 +13,7 @@ returns-then-group-lt-COUNTER_LIMIT-clause-lawful c =
       epoch = omega (arith, c.if-group-lt-COUNTER_LIMIT.true);
     })
     refl refl (omega arith) c.requires.epoch (ap (λ gaps. gaps.items) c.copy_gaps.ensures) refl
+    (λ is. absurd (both_ways c.is_newcomer.result c.if-is_newcomer.false (c.is_newcomer.ensures.1 is)))
+
+pub returns-then-group-lt-COUNTER_LIMIT-clause-other : goal.returns-then-group-lt-COUNTER_LIMIT-clause-other
+returns-then-group-lt-COUNTER_LIMIT-clause-other c is = both_ways c.is_newcomer.result c.if-is_newcomer.false (c.is_newcomer.ensures.1 is)

@@ -1,12 +1,14 @@
-use Rattle.std.proofs.Common.{◌≡◌, ◌∷◌, List, [], Err, inl, refl, sym, ap, subst, ◌∙◌}
+use Rattle.std.proofs.Common.{◌≡◌, ◌⊎◌, ◌∷◌, ℕ, List, [], length, Err, inl, refl, sym, ap, subst, ◌∙◌}
 use Rattle.std.proofs.lemmas.Result.{err_from_is_err_and}
 use Rattle.kv_types.specs.declared.place.EntryNo.{EntryNo}
 use Rattle.kv_types.specs.declared.refusal.Refusal.TheVariants.{Exhausted, Fault, Memory}
 use Rattle.pmem.specs.Crash.{image_of}
 use Rattle.pmem.specs.Runs.{LeavesOnly}
-use Rattle.wbl_engine.specs.Contents.{Same}
+use Rattle.model.specs.declared.group.Part.{Part}
+use Rattle.model.specs.Group.{Contents}
+use Rattle.wbl_engine.specs.Contents.{Keeps, Same}
 use Rattle.wbl_engine.specs.Freeing.{AreEnded, KeepsWithoutSome, after_free}
-use Rattle.wbl_engine.specs.Relocating.{ExhaustsRelocation, IsRelocation}
+use Rattle.wbl_engine.specs.Relocating.{ExhaustsRelocation, IsRelocation, after_relocation}
 use Rattle.wbl_migrate.specs.Moving.{MovesLive}
 use Rattle.wbl_migrate.proofs.GapSteps.{failed_now}
 use Rattle.wbl_migrate.proofs.MovedLemmas.{IsMove, relocates}
@@ -38,7 +40,8 @@ move g c = record {
 
 pub relocate-requires : goal.relocate-requires
 relocate-requires g c =
-    relocates
+    subst (IsRelocation (g.E.Durable.contents c.args.engine.now)) (sym c.from_ref.ensures.value)
+    (relocates
     (record {
       consistent = c.requires.ready.consistent;
       lawful = c.requires.ready.lawful;
@@ -49,11 +52,27 @@ relocate-requires g c =
       changes = c.in_ok-part.ensures.changes;
       ended = c.in_ok-part.ensures.ended;
     })
-    (image_of (g.E.Durable.device c.args.engine.now).words) (c.requires.ready.durable (image_of (g.E.Durable.device c.args.engine.now).words) (λ word. inl refl))
+    (image_of (g.E.Durable.device c.args.engine.now).words) (c.requires.ready.durable (image_of (g.E.Durable.device c.args.engine.now).words) (λ word. inl refl)))
 
-asked : (g : Over) (c : After-relocate g) → IsRelocation (g.E.Durable.contents c.args.engine.now) c.in_ok-part.part
-asked g c =
-    relocates (move g c) (image_of (g.E.Durable.device c.args.engine.now).words) (c.requires.ready.durable (image_of (g.E.Durable.device c.args.engine.now).words) (λ word. inl refl))
+-- what the engine tells, of the one part
+module _ (g : Over) (c : After-relocate g) where
+  abbrev old : Contents
+  old = g.E.Durable.contents c.args.engine.now
+
+  one : c.from_ref.result.now ≡ c.in_ok-part.part ∷ []
+  one = c.from_ref.ensures.value
+
+  asked : IsRelocation old (c.in_ok-part.part ∷ [])
+  asked =
+      relocates (move g c) (image_of (g.E.Durable.device c.args.engine.now).words) (c.requires.ready.durable (image_of (g.E.Durable.device c.args.engine.now).words) (λ word. inl refl))
+
+  moments : LeavesOnly (g.E.Durable.device c.args.engine.now) (g.E.Durable.device c.relocate.new.self) (λ image. Keeps old image ⊎ Keeps (after_relocation old (c.in_ok-part.part ∷ [])) image)
+  moments =
+      subst (λ (parts : List Part). LeavesOnly (g.E.Durable.device c.args.engine.now) (g.E.Durable.device c.relocate.new.self) (λ image. Keeps old image ⊎ Keeps (after_relocation old parts) image)) one
+      (c.relocate.ensures.moments c.requires.ready.sound)
+
+  limit : ExhaustsRelocation 1 old.current → ExhaustsRelocation (length c.from_ref.result.now) old.current
+  limit exhausts = subst (λ (n : ℕ). ExhaustsRelocation n old.current) (sym (ap length one)) exhausts
 
 pub returns-in_err-relocate-clause-step : goal.returns-in_err-relocate-clause-step
 returns-in_err-relocate-clause-step g c =
@@ -63,11 +82,17 @@ returns-in_err-relocate-clause-step g c =
     let ready = c.requires.ready in
     rw (exit.1 ∙ ap Err exit.2)
     (unmoved_step g.E.Durable.device g.E.Durable.contents g.E.Durable.is_faulted c.args.engine.now ready (move g at) (asked g at) c.relocate.new.self c.in_err-relocate.field-0.0 told.causes
-    (λ fault exhausts. let is = told.exhausts ready.sound exhausts in let both : Fault ≡ Exhausted = cc in cc) (λ exhausted. (told.exhausted (ap Err exhausted)).1) told.stays
-    (λ fault. (told.fences.stopped (ap Err fault), failed_now (g.E.Durable.is_faulted c.args.engine.now) (told.fences.fault (ap Err fault)) ready.sound)) told.fences.asked_moment (told.moments ready.sound))
+    (λ fault exhausts. let is = told.exhausts ready.sound (limit g at exhausts) in let both : Fault ≡ Exhausted = cc in cc) (λ exhausted. (told.exhausted (ap Err exhausted)).1) told.stays
+    (λ fault. (told.fences.stopped (ap Err fault), failed_now (g.E.Durable.is_faulted c.args.engine.now) (told.fences.fault (ap Err fault)) ready.sound)) told.fences.asked_moment (moments g at))
 
-room : (g : Over) (c : After-deref g) → ¬ ExhaustsRelocation (g.E.Durable.contents c.args.engine.now).current
-room g c = λ exhausts. ok_no_error c.in_ok-relocate.field-0 Exhausted (c.in_ok-relocate.ensures.exhausts c.requires.ready.sound exhausts)
+room : (g : Over) (c : After-deref g) → ¬ ExhaustsRelocation 1 (g.E.Durable.contents c.args.engine.now).current
+room g c = λ exhausts. ok_no_error c.in_ok-relocate.field-0 Exhausted (c.in_ok-relocate.ensures.exhausts c.requires.ready.sound
+    (subst (λ (n : ℕ). ExhaustsRelocation n (g.E.Durable.contents c.args.engine.now).current) (sym (ap length c.from_ref.ensures.value)) exhausts))
+
+moved : (g : Over) (c : After-deref g) → Same (after_relocation (g.E.Durable.contents c.args.engine.now) (c.in_ok-part.part ∷ [])) (g.E.Durable.contents c.relocate.new.self)
+moved g c =
+    subst (λ (parts : List Part). Same (after_relocation (g.E.Durable.contents c.args.engine.now) parts) (g.E.Durable.contents c.relocate.new.self)) c.from_ref.ensures.value
+    c.in_ok-relocate.ensures.moved
 
 pub free_unraised-requires : goal.free_unraised-requires
 free_unraised-requires g c =
@@ -75,7 +100,7 @@ free_unraised-requires g c =
     let told = c.in_ok-relocate.ensures in
     subst (AreEnded (g.E.Durable.contents c.relocate.new.self)) (sym (c.deref.ensures.value ∙ c.in_ok-part.ensures.ended))
     (mid_ended g.E.Durable.device g.E.Durable.contents g.E.Durable.is_faulted c.args.engine.now c.requires.ready (move g at.After-relocate) (asked g at.After-relocate) c.relocate.new.self (room g at.After-deref)
-    told.moved told.durable told.fences.sound told.fences.asked_moment (told.moments c.requires.ready.sound))
+    (moved g at.After-deref) told.durable told.fences.sound told.fences.asked_moment (moments g at.After-relocate))
 
 pub returns-in_err-free_unraised-clause-step : goal.returns-in_err-free_unraised-clause-step
 returns-in_err-free_unraised-clause-step g c =
@@ -87,7 +112,7 @@ returns-in_err-free_unraised-clause-step g c =
     let entries : c.deref.result.now ≡ c.args.from ∷ [] = c.deref.ensures.value ∙ c.in_ok-part.ensures.ended in
     rw (exit.1 ∙ ap Err exit.2)
     (unfreed_step g.E.Durable.device g.E.Durable.contents g.E.Durable.is_faulted c.args.engine.now ready (move g at.After-relocate) (asked g at.After-relocate) c.relocate.new.self (room g at.After-deref)
-    told.moved told.durable told.fences.sound told.fences.asked_moment (told.moments ready.sound) c.free_unraised.new.engine last.fences.asked_moment
+    (moved g at.After-deref) told.durable told.fences.sound told.fences.asked_moment (moments g at.After-relocate) c.free_unraised.new.engine last.fences.asked_moment
     (subst (λ (xs : List EntryNo). LeavesOnly (g.E.Durable.device c.relocate.new.self) (g.E.Durable.device c.free_unraised.new.engine) (KeepsWithoutSome xs (g.E.Durable.contents c.relocate.new.self))) entries
     (last.moments told.fences.sound.0))
     c.in_err-free_unraised.field-0.0 last.causes (λ memory. last.memory (ap Err memory))
@@ -102,7 +127,7 @@ returns-clause-moved g c =
     let last = c.in_ok-free_unraised.ensures in
     let entries : c.deref.result.now ≡ c.args.from ∷ [] = c.deref.ensures.value ∙ c.in_ok-part.ensures.ended in
     moved_has g.E.Durable.device g.E.Durable.contents g.E.Durable.is_faulted c.args.engine.now ready (move g at.After-relocate) (asked g at.After-relocate) c.relocate.new.self (room g at.After-deref)
-    told.moved told.durable told.fences.sound told.fences.asked_moment (told.moments ready.sound) c.free_unraised.new.engine last.fences.asked_moment
+    (moved g at.After-deref) told.durable told.fences.sound told.fences.asked_moment (moments g at.After-relocate) c.free_unraised.new.engine last.fences.asked_moment
     (subst (λ (xs : List EntryNo). LeavesOnly (g.E.Durable.device c.relocate.new.self) (g.E.Durable.device c.free_unraised.new.engine) (KeepsWithoutSome xs (g.E.Durable.contents c.relocate.new.self))) entries
     (last.moments told.fences.sound.0))
     (subst (λ (xs : List EntryNo). Same (after_free xs (g.E.Durable.contents c.relocate.new.self)) (g.E.Durable.contents c.free_unraised.new.engine)) entries last.moved)
@@ -115,7 +140,7 @@ returns-clause-step g c =
     let last = c.in_ok-free_unraised.ensures in
     let entries : c.deref.result.now ≡ c.args.from ∷ [] = c.deref.ensures.value ∙ c.in_ok-part.ensures.ended in
     moved_step g.E.Durable.device g.E.Durable.contents g.E.Durable.is_faulted c.args.engine.now ready (move g at.After-relocate) (asked g at.After-relocate) c.relocate.new.self (room g at.After-deref)
-    told.moved told.durable told.fences.sound told.fences.asked_moment (told.moments ready.sound) c.free_unraised.new.engine last.fences.asked_moment
+    (moved g at.After-deref) told.durable told.fences.sound told.fences.asked_moment (moments g at.After-relocate) c.free_unraised.new.engine last.fences.asked_moment
     (subst (λ (xs : List EntryNo). LeavesOnly (g.E.Durable.device c.relocate.new.self) (g.E.Durable.device c.free_unraised.new.engine) (KeepsWithoutSome xs (g.E.Durable.contents c.relocate.new.self))) entries
     (last.moments told.fences.sound.0))
     (subst (λ (xs : List EntryNo). Same (after_free xs (g.E.Durable.contents c.relocate.new.self)) (g.E.Durable.contents c.free_unraised.new.engine)) entries last.moved) last.durable last.fences.sound

@@ -77,7 +77,7 @@ returns-in-Ok-clause-exhausted g c =
     let opened = opened_contents Version1 (g.P.Pmem.state c.in-Ok.engine.device) told.superblock told.reopens told.shown told.durable in
     IfErr-weaker c.vacate_engine.result _ _
     (λ refused stops exhausted r s old.
-    inr (stopped_old _ r s _ (λ (current : Record) (_ : Image). ExhaustsRelocation current) (λ b image _ _ _ _ is. is) _
+    inr (stopped_old _ r s _ (λ (current : Record) (_ : Image). ExhaustsRelocation 1 current) (λ b image _ _ _ _ is. is) _
     (g.P.Pmem.state refused.1) (opened_stand told.reopens r s old opened.1) (stops exhausted)))
     c.vacate_engine.ensures.exhausted
 

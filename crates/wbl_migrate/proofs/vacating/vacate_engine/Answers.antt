@@ -65,7 +65,7 @@ returns-in-Err-clause-full g c full =
 
 pub returns-in-Err-clause-exhausted : goal.returns-in-Err-clause-exhausted
 returns-in-Err-clause-exhausted g c exhausted =
-    engine_stops g.E.Durable.device g.E.Durable.contents g.E.Durable.is_faulted (λ (a : Contents). ExhaustsRelocation a.current) c.args.engine
+    engine_stops g.E.Durable.device g.E.Durable.contents g.E.Durable.is_faulted (λ (a : Contents). ExhaustsRelocation 1 a.current) c.args.engine
     c.vacate_live.new.engine (Err c.in-Err.refusal) (g.E.Device.Pmem.state c.into_device.result)
     (λ fault. cc) c.into_device.ensures c.in-Err.ensures.step
     (c.in-Err.ensures.exhausted (ap Err exhausted))

@@ -32,7 +32,7 @@ returns-in-Ok-format-2-clause-stands g c =
     serving.new.gaps
     (made.underlies _ own) (made.expects _ own)
     made.link made.handed refl made.opening serving.new.floor made.none_sent.0 made.arrivals
-    (standby-new _ _ _ _ standby_size.0 standby_size.1 following.new following.durable following.sound.0 all c.requires.following made.none_ended (following.new.epoch ∙ sym epoch) epoch)
+    (standby-new _ _ _ _ standby_size.0 standby_size.1 following.new following.durable following.sound.0 all c.requires.following made.none_ended (following.new.epoch ∙ sym epoch) epoch refl)
     refl refl refl refl refl)
 
 pub returns-in-Err-clause-cause : goal.returns-in-Err-clause-cause

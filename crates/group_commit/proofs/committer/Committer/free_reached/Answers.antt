@@ -10,8 +10,10 @@ use Rattle.group_commit.proofs.committer.Committer.free_reached.Goals.{In_ok-set
 
 all : (g : Over) (c : In_ok-set_aside g) → AllAside c.args.self.now.aside.items c.args.work.now.items c.set_aside.new.aside.items c.set_aside.new.work.items
 all g c =
-    all-aside c.args.self.now.aside.items c.args.work.now.items c.in_ok-set_aside.field-0 c.set_aside.new.aside.items c.set_aside.new.work.items c.in_ok-set_aside.ensures.came
-    (c.requires.none c.if-not-has_room.false)
+    all-aside c.args.self.now.aside.items c.args.work.now.items c.set_aside.new.aside.items c.set_aside.new.work.items c.in_ok-set_aside.ensures.all
+
+pub set_aside-requires : goal.set_aside-requires
+set_aside-requires g c = record { none = c.requires.none c.if-not-has_room.false }
 
 pub free_first-requires-clause-lawful : goal.free_first-requires-clause-lawful
 free_first-requires-clause-lawful g c = aside-ended (g.E.Durable.contents c.args.self.now.engine) c.args.self.now.aside.items c.args.work.now.items c.requires.lawful

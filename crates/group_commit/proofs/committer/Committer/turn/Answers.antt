@@ -26,10 +26,10 @@ returns-in-Durable-clause-takes g c =
     let old = c.args.self.now in
     let in_hand = sym c.in-Durable.ensures.value in
     takes-step E.device E.contents E.is_faulted O.offered O.known_room old c.raise_local.new.self c.args.work.now c.args.work.now c.args.link.now c.args.link.now c.args.remote (Ok c.raise_local.result)
-    due.Raise (O.known_room c.args.link.now) refl (raise-now E.contents old c.args.work.now (nat_lt 0 (O.known_room c.args.link.now)) c.args.remote c.in-Durable.group in_hand) (
+    due.Raise (O.known_room c.args.link.now) refl (raise-now E.contents old c.args.work.now (nat_lt 0 (O.known_room c.args.link.now)) c.args.remote c.in-Durable.groups in_hand) (
       refl,
       refl,
-      record { group = c.in-Durable.group; in_hand = in_hand; answer = ap Ok c.raise_local.ensures.value; now = c.raise_local.ensures.raised },
+      record { groups = c.in-Durable.groups; were = in_hand; answer = ap Ok c.raise_local.ensures.value; now = c.raise_local.ensures.raised },
     )
 
 pub returns-in-Shown-clause-takes : goal.returns-in-Shown-clause-takes
@@ -39,14 +39,23 @@ returns-in-Shown-clause-takes g c =
     let old = c.args.self.now in
     let in_hand = sym c.in-Shown.ensures.value in
     takes-step E.device E.contents E.is_faulted O.offered O.known_room old c.hand.new.self c.args.work.now c.args.work.now c.args.link.now c.hand.new.link c.args.remote (Ok c.hand.result)
-    due.Hand (O.known_room c.hand.new.link) refl (hand-now E.contents old c.args.work.now (nat_lt 0 (O.known_room c.hand.new.link)) c.args.remote c.in-Shown.group in_hand) (
+    due.Hand (O.known_room c.hand.new.link) refl (hand-now E.contents old c.args.work.now (nat_lt 0 (O.known_room c.hand.new.link)) c.args.remote c.in-Shown.groups in_hand) (
       refl,
       record {
-        group = c.in-Shown.group;
-        in_hand = in_hand;
+        groups = c.in-Shown.groups;
+        were = in_hand;
         came = elim c.hand.ensures.handed [
-          | inl handed ↦ inl (ap Ok handed.0, handed.1 ∙ ap (λ (stage : Stage). record old { stage = stage }) c.replace.ensures.after, handed.2)
-          | inr full ↦ inr (ap Ok full.0, full.1 ∙ ap (λ (stage : Stage). record old { stage = stage }) (sym in_hand), full.2, full.3)
+          | inl first ↦ inl (record {
+            group = first.group;
+            rest = first.rest;
+            first = first.first;
+            answer = first.answer;
+            left = first.left;
+            now = first.now;
+            offered_is = first.offered_is;
+          })
+          | inr (inl full) ↦ inr (inl (ap Ok full.0, full.1 ∙ ap (λ (stage : Stage). record old { stage = stage }) (sym in_hand), full.2, full.3))
+          | inr (inr none) ↦ inr (inr (none.0, ap Ok none.1, none.2 ∙ ap (λ (stage : Stage). record old { stage = stage }) c.replace.ensures.after, none.3))
         ];
       },
     )

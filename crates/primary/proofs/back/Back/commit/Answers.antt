@@ -11,6 +11,9 @@ turn-requires-clause-lawful g c = λ ready.
     let b = c.args.self.now in
     gives-work (g.E.Durable.contents b.committer.engine) b.work.items b.committer.aside.items c.requires.stands.0 c.requires.stands.1 c.requires.stands.2.leads
 
+pub turn-requires-clause-shown : goal.turn-requires-clause-shown
+turn-requires-clause-shown g c = λ group rest is. c.requires.may group
+
 pub returns-clause-told : goal.returns-clause-told
 returns-clause-told g c =
     let E = g.E.Durable in

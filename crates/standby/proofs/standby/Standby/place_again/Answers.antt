@@ -21,14 +21,14 @@ changes_are g c =
     c.deref.ensures.value ∙ c.push_reserved.ensures.items ∙ ap (λ (changes : List PlacedChange). changes ++ placed.Put (the_put g c) ∷ []) (c.reserve.ensures.items ∙ c.empty_part-part.ensures.changes)
 
 pub apply-requires-clause-lawful : goal.apply-requires-clause-lawful
-apply-requires-clause-lawful g c = lawful-from_table (g.E.Durable.contents c.args.self.now.engine).versions (g.K.Keyspace.table c.args.self.now.keyspace) c.requires.follows.table_is
+apply-requires-clause-lawful g c = lawful-from_table c.requires.beside.versions (g.K.Keyspace.table c.args.self.now.keyspace) c.requires.beside.table_is
 
 pub apply-requires-clause-fresh : goal.apply-requires-clause-fresh
 apply-requires-clause-fresh g c =
     let prefix = (goal.at.apply-requires-clause-fresh g c).After-deref in
     subst (λ (changes : List PlacedChange). AreFresh (g.K.Keyspace.table c.args.self.now.keyspace) (puts_of changes)) (sym (changes_are g prefix))
-    (fresh-claimed (g.E.Durable.contents c.args.self.now.engine).versions (g.K.Keyspace.table c.args.self.now.keyspace) c.args.self.now.heap (the_put g prefix) c.claim_place.new.heap c.requires.follows.table_is
-    (λ i free. (c.requires.follows.left.entries i free).2) (claims g prefix))
+    (fresh-claimed c.requires.beside.versions (g.K.Keyspace.table c.args.self.now.keyspace) c.args.self.now.heap (the_put g prefix) c.claim_place.new.heap c.requires.beside.table_is
+    c.requires.beside.empty (claims g prefix))
 
 pub give-requires : goal.give-requires
 give-requires g c =

@@ -7,7 +7,7 @@ use Rattle.wbl_engine.proofs.engine.WblEngine.format.Goals as goal
 pub returns-then-lines-lt-MIN_LINES-clause-moments : goal.returns-then-lines-lt-MIN_LINES-clause-moments
 returns-then-lines-lt-MIN_LINES-clause-moments g c =
     let d = g.P.Pmem.state c.args.device in
-    none_leaves d (IsFormatting d.words d.lines c.args.role) (λ image is. inl is)
+    none_leaves d (IsFormatting d.words d.lines c.args.role c.args.epoch) (λ image is. inl is)
 
 pub returns-in-Ok-clause-durable : goal.returns-in-Ok-clause-durable
 returns-in-Ok-clause-durable g c =

@@ -8,15 +8,24 @@ use Rattle.wbl_engine.specs.Committing.{under_floor}
 use Rattle.wbl_engine.specs.Contents.{Same}
 use Rattle.wbl_engine.proofs.Committing.{KeepsEither}
 use Rattle.wbl_engine.proofs.Erased.{rest_keeps}
+use Rattle.wbl_engine.proofs.HalfLemmas.{half_keeps}
+use Rattle.wbl_engine.proofs.LawfulLemmas.{not_exhausted}
 use Rattle.wbl_engine.proofs.SuccessorLemmas.{floor_after, record_at_floor}
 use Rattle.wbl_engine.proofs.engine.WblEngineDurable.commit.Goals as goal
+
+pub returns-then-self-2-clause-moments : goal.returns-then-self-2-clause-moments
+returns-then-self-2-clause-moments g c sound =
+    let r = c.args.self.now.current in
+    let d = g.P.Pmem.state c.args.self.now.device in
+    none_leaves d (KeepsEither (contents_of r d) (after_group (floored c.args.floor (contents_of r d)) c.args.group.now))
+    (λ image is. inl (half_keeps (c.args.self.now.half sound c.if-self-2.true) image is))
 
 pub returns-in_default-clause-moments : goal.returns-in_default-clause-moments
 returns-in_default-clause-moments g c sound =
     let r = c.args.self.now.current in
     let d = g.P.Pmem.state c.args.self.now.device in
     none_leaves d (KeepsEither (contents_of r d) (after_group (floored c.args.floor (contents_of r d)) c.args.group.now))
-    (λ image is. inl (rest_keeps r d (c.args.self.now.at_rest sound) image is))
+    (λ image is. inl (rest_keeps r d (c.args.self.now.at_rest sound c.if-self-2.false) image is))
 
 pub commit_group-requires-clause-after : goal.commit_group-requires-clause-after
 commit_group-requires-clause-after g c = record_at_floor c.args.self.now.current c.in-Some.next c.args.group.now c.args.floor c.in-Some.ensures.next
@@ -43,3 +52,13 @@ returns-in-Err-clause-moments g c sound =
     let old = contents_of c.args.self.now.current d in
     subst (λ (floor : ℕ). LeavesOnly d (g.P.Pmem.state c.commit_group.new.device) (KeepsEither old (after_group (under_floor floor old) c.args.group.now)))
     (floor_after c.args.self.now.current c.in-Some.next c.args.group.now c.args.floor c.in-Some.ensures.next) c.commit_group.ensures.moments
+
+pub returns-in-Ok-clause-exhausts : goal.returns-in-Ok-clause-exhausts
+returns-in-Ok-clause-exhausts g c sound exhausts =
+    absurd (not_exhausted c.args.floor (contents_of c.args.self.now.current (g.P.Pmem.state c.args.self.now.device)) c.args.group.now c.in-Some.next
+    c.in-Some.ensures.next c.in-Some.ensures.lawful c.in-Some.ensures.other exhausts)
+
+pub returns-in-Err-clause-exhausts : goal.returns-in-Err-clause-exhausts
+returns-in-Err-clause-exhausts g c sound exhausts =
+    absurd (not_exhausted c.args.floor (contents_of c.args.self.now.current (g.P.Pmem.state c.args.self.now.device)) c.args.group.now c.in-Some.next
+    c.in-Some.ensures.next c.in-Some.ensures.lawful c.in-Some.ensures.other exhausts)

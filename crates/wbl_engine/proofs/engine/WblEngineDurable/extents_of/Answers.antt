@@ -5,13 +5,14 @@ use Rattle.pmem.specs.Crash.{image_of}
 use Rattle.wbl_engine.specs.AtRest.{contents_of}
 use Rattle.wbl_engine.specs.Erasing.{extent_in}
 use Rattle.wbl_engine.specs.Freeing.{extents_of}
-use Rattle.wbl_engine.proofs.FreeingLemmas.{ended_extents, ended_lines}
+use Rattle.wbl_engine.proofs.FreeingLemmas.{ended_extents, listed_lines}
+use Rattle.wbl_engine.proofs.HalfLemmas.{sound_many}
 use Rattle.wbl_engine.proofs.engine.WblEngineDurable.extents_of.Goals as goal
 
 pub named_extents-requires : goal.named_extents-requires
 named_extents-requires g c =
     let self = c.args.self.now in
-    ended_lines self.current (g.P.Pmem.state self.device) c.args.entries.now (self.at_rest c.requires.sound) c.requires.ended
+    listed_lines self.current (g.P.Pmem.state self.device) c.args.entries.now (sound_many self.copying (self.at_rest c.requires.sound) (self.half c.requires.sound)) c.requires.ended
 
 pub returns : goal.returns
 returns g c =

@@ -1,6 +1,6 @@
 use Rattle.std.proofs.Common.{deque_capacity, deque_len, length, ◌+◌, ◌≤◌}
 use Rattle.group_commit.proofs.TakingLemmas.{Taken}
-use Rattle.group_commit.proofs.queue.set_aside.Given as goal
+use Rattle.group_commit.proofs.queue.take_group.Given as goal
 
 abbrev pub invariant-loop : goal.invariant-loop
 invariant-loop l = record {
