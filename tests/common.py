@@ -70,7 +70,7 @@ CAUSE = re.compile(
     rb"|does not begin as an image|is what a format has left unfinished: give that again"
     rb"|is an image of another version; wbl-server migrate brings one of version 1 to version 2"
     rb"|has no place for a version that has to move|has not as many lines as an image, or as were asked for|has come to the end of a counter"
-    rb"|is in use by another process, and changed while it was read|breaks a rule of an image|is an image of the other role)\n"
+    rb"|is in use by another process, and changed while it was read|breaks a rule of an image|is an image of the other role|is a newcomer's image, which has not got its copy)\n"
 )
 
 

@@ -31,6 +31,7 @@ DONE, FAILED, MISUSED, PASSING = 0, 1, 2, 75
 # docs/refusals.md, those of images and their files.
 TEXTS = {
     1: "device fault", 2: "bad magic", 3: "bad version", 4: "wrong size", 5: "full", 6: "stamps exhausted", 7: "damaged image", 16: "wrong role",
+    17: "not copied",
 }
 
 

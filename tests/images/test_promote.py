@@ -30,6 +30,7 @@ TEXTS = {
     7: "damaged image",
     15: "not fenced",
     16: "wrong role",
+    17: "not copied",
 }
 
 

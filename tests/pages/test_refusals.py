@@ -17,8 +17,7 @@ REACHED = [
     "WblEngine::reopen", "inspect", "read_entry", "read_super", "Decoder::feed", "Outgoing::on_ack", "Standby::on_frame", "promote", "ExtentHeap::take",
     "ExtentHeap::take_entry", "Entrance::enter", "Lobby::enter", "Outlet::offer", "options",
 ]
-# (17 is no refusal)
-NUMBERS = [*range(1, 17), 18, 19]
+NUMBERS = [*range(1, 20)]
 
 # Words of a cell that name no clause: what is lent cannot change, and an error of one kind has one cause.
 SAYING = ("lent", "open", "its only answer")

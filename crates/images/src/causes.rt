@@ -161,6 +161,7 @@ fn cause_of(refusal: Refusal, trouble: Trouble) -> Option<&'static str> {
         Refusal::Exhausted => Some("has come to the end of a counter"),
         Refusal::Damaged => Some(damage_of(trouble)),
         Refusal::WrongRole => Some("is an image of the other role"),
+        Refusal::NotCopied => Some("is a newcomer's image, which has not got its copy"),
         _ => None,
     }
 }

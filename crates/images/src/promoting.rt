@@ -33,7 +33,7 @@ const NEEDS_FENCE: &[u8] =
     b"promote needs --old-primary-stopped, your word that the old primary is stopped and is not started again\n";
 
 /// Makes the image of this name, which is a stopped standby's, a primary's of the next epoch, and says so. The operator states whether the old
-/// primary is stopped: where it is not, that is `NotFenced`, and the image is not even opened. An image below the position `at_least` is kept as it is, and
+/// primary is stopped: where it is not, that is `NotFenced`, and the image is not even opened. A newcomer's is refused by `NotCopied` and stays as it is. An image below the position `at_least` is kept as it is, and
 /// so is one at position 0 where `is_asked` says so and the reader does not say `yes`.
 pub fn promote<I: Images, R: Read, W: Write, E: Write>(
     alloc: Global,
@@ -59,12 +59,12 @@ pub fn promote<I: Images, R: Read, W: Write, E: Write>(
     Ok(())
 }
 
-/// Whether the image of this device may be promoted, which stays as it is: it is undamaged, and not below the position `at_least`. That one at position 0
-/// holds nothing is told, and asked for.
+/// Whether the image of this device may be promoted, which stays as it is: it is undamaged, no newcomer's, and not below the position `at_least`. That one at
+/// position 0 holds nothing is told, and asked for.
 ///
 /// # Errors
 ///
-/// `Below` and `NotConfirmed`, and what reading the image refuses.
+/// `NotCopied` for a newcomer's, `Below` and `NotConfirmed`, and what reading the image refuses.
 fn may_promote<P: Pmem, R: Read, E: Write>(
     alloc: Global,
     name: &str,
@@ -80,6 +80,9 @@ fn may_promote<P: Pmem, R: Read, E: Write>(
         → is_asked ≡ true → OnOk result (Consumes (R.remaining reader.old) (R.remaining reader.new) yes_line) }
 {
     let (current, _) = wbl_engine::inspect(alloc, device, LAYOUT)?;
+    if current.role == Role::Newcomer {
+        return Err(Failure::from(Refusal::NotCopied));
+    }
     let position = current.position;
     if position < at_least {
         return Err(Failure::Kept(Kept::Below { position, at_least }));
@@ -88,7 +91,7 @@ fn may_promote<P: Pmem, R: Read, E: Write>(
         return Ok(());
     }
     match current.role {
-        // (which are refused as such)
+        // (which is refused as such, as a newcomer's was)
         Role::Primary => Ok(()),
         Role::Newcomer => Ok(()),
         Role::Standby => confirm_empty(name, is_asked, reader, errors),

@@ -1,7 +1,7 @@
 -- The number of each refusal and its text, as programs print them (this project's profile).
 use Rattle.std.specs.Prelude.{ℕ, List, codes}
 use Rattle.kv_types.specs.declared.refusal.Refusal.{Refusal}
-use Rattle.kv_types.specs.declared.refusal.Refusal.TheVariants.{Fault, BadMagic, BadVersion, WrongSize, Full, Exhausted, Damaged, SeatsFull, PipeFull, FrameFault, WrongEpoch, PositionGap, StandbyAhead, Memory, NotFenced, WrongRole, WrongPair, WrongLink}
+use Rattle.kv_types.specs.declared.refusal.Refusal.TheVariants.{Fault, BadMagic, BadVersion, WrongSize, Full, Exhausted, Damaged, SeatsFull, PipeFull, FrameFault, WrongEpoch, PositionGap, StandbyAhead, Memory, NotFenced, WrongRole, NotCopied, WrongPair, WrongLink}
 
 abbrev pub refusal_number : Refusal → ℕ
 refusal_number Fault = 1
@@ -20,6 +20,7 @@ refusal_number StandbyAhead = 13
 refusal_number Memory = 14
 refusal_number NotFenced = 15
 refusal_number WrongRole = 16
+refusal_number NotCopied = 17
 refusal_number WrongPair = 18
 refusal_number WrongLink = 19
 
@@ -40,5 +41,6 @@ refusal_text StandbyAhead = codes "standby ahead"
 refusal_text Memory = codes "out of memory"
 refusal_text NotFenced = codes "not fenced"
 refusal_text WrongRole = codes "wrong role"
+refusal_text NotCopied = codes "not copied"
 refusal_text WrongPair = codes "wrong pair"
 refusal_text WrongLink = codes "wrong link version"

@@ -40,8 +40,10 @@ pub enum Refusal {
     NotFenced,
     /// The image is to be served in the other role.
     WrongRole,
-    /// The node at the other end of the link belongs to another pair. (17 is kept for a newcomer that is promoted.)
-    WrongPair = 18,
+    /// The image is a newcomer's, which has not got its copy.
+    NotCopied,
+    /// The node at the other end of the link belongs to another pair.
+    WrongPair,
     /// The node at the other end of the link is of a release whose links this one does not speak.
     WrongLink,
 }
@@ -69,7 +71,7 @@ impl<T: Drop> From<AllocFailed<T>> for Refusal {
 impl Refusal {
     ghost use Rattle.kv_types.specs.Refusal.{refusal_number};
 
-    /// The number that programs print, 1 to 19 without 17.
+    /// The number that programs print, 1 to 19.
     pub fn number(self) -> u8
         ensures { result ≡ refusal_number self }
     {
@@ -101,6 +103,7 @@ impl fmt::Display for Refusal {
             Refusal::Memory => "out of memory",
             Refusal::NotFenced => "not fenced",
             Refusal::WrongRole => "wrong role",
+            Refusal::NotCopied => "not copied",
             Refusal::WrongPair => "wrong pair",
             Refusal::WrongLink => "wrong link version",
         })

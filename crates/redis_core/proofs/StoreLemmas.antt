@@ -54,6 +54,7 @@ module _ (old : Stored) (words : List (List ℕ)) (before : Running) where
   runs-refused refusal.Memory after full same = runs_memory after same
   runs-refused refusal.NotFenced after full same = runs_memory after same
   runs-refused refusal.WrongRole after full same = runs_memory after same
+  runs-refused refusal.NotCopied after full same = runs_memory after same
   runs-refused refusal.WrongPair after full same = runs_memory after same
   runs-refused refusal.WrongLink after full same = runs_memory after same
 

@@ -1,13 +1,15 @@
 //! A standby that is made of its image.
 ghost use Rattle.std.specs.Prelude.{◌≡◌, ◌⊎◌, ℕ, false, IfOk, IfErr};
-ghost use Rattle.kv_types.specs.declared.refusal.Refusal.TheVariants.{Fault, Memory};
+ghost use Rattle.kv_types.specs.declared.refusal.Refusal.TheVariants.{Fault, Memory, NotCopied, WrongRole};
 ghost use Rattle.model.specs.declared.layout.TheConstants.{LAYOUT};
+ghost use Rattle.model.specs.declared.record.Record.{Record as CommitRecord};
 ghost use Rattle.model.specs.declared.record.Role.TheVariants as role;
 ghost use Rattle.model.specs.Group.{Contents};
 ghost use Rattle.pmem.specs.Device.{Only};
 ghost use Rattle.pmem.specs.Crash.{image_of};
 ghost use Rattle.placing.specs.Read.{AreOf};
 ghost use Rattle.wbl_engine.specs.Contents.{IsDurable};
+ghost use Rattle.wbl_engine.specs.Lawful.{IsUndamaged};
 ghost use Rattle.wbl_engine.specs.Reopening.{RefusesReopening};
 ghost use Rattle.standby.specs.Following.{Follows};
 ghost use Rattle.wbl_engine.specs.Restarting.{IsReopened};
@@ -26,7 +28,8 @@ use wbl_engine::{Durable, Role, Versions, WblEngine};
 ///
 /// # Errors
 ///
-/// As at `WblEngine::reopen`, and `Memory` also after it: the image is the reopened one then.
+/// As at `WblEngine::reopen`, but `NotCopied` for an undamaged image of a newcomer, which follows nobody before it has its copy; and `Memory` also after it: the
+/// image is the reopened one then.
 pub fn open<P: Pmem + Drop, K: Keyspace + Drop>(
     alloc: Global,
     device: P,
@@ -38,7 +41,8 @@ pub fn open<P: Pmem + Drop, K: Keyspace + Drop>(
     ensures durable { IfOk result (λ node. IsDurable (⟦<WblEngine<P> as Durable>⟧.device node.engine) (⟦<WblEngine<P> as Durable>⟧.contents node.engine)) }
     ensures sound { IfOk result (λ node. ⟦<WblEngine<P> as Durable>⟧.is_faulted node.engine ≡ false) }
     ensures refused { IfErr result (λ refusal. (refusal ≡ Fault) ⊎ ((refusal ≡ Memory)
-        ⊎ RefusesReopening LAYOUT (P.state device).lines (image_of (P.state device).words) role.Standby refusal)) }
+        ⊎ (RefusesReopening LAYOUT (P.state device).lines (image_of (P.state device).words) role.Standby refusal
+        ⊎ ((refusal ≡ NotCopied) × ((r : CommitRecord) → IsUndamaged (P.state device).lines r (image_of (P.state device).words) → r.role ≡ role.Newcomer))))) }
 {
     match WblEngine::reopen(alloc, device, LAYOUT, Role::Standby) {
         Ok((engine, versions)) => {
@@ -46,7 +50,20 @@ pub fn open<P: Pmem + Drop, K: Keyspace + Drop>(
             let (keyspace, room) = read_back(alloc, layout, engine.lines(), versions)?;
             Ok(Standby::new(engine, keyspace, room))
         }
+        Err((Refusal::WrongRole, device)) => Err(refusal_of_role(alloc, &device)),
         Err((refusal, _device)) => Err(refusal),
+    }
+}
+
+/// Why the image of this device is no standby's: it is a newcomer's, or any other. (Without the memory to read it, it is any other.)
+fn refusal_of_role<P: Pmem>(alloc: Global, device: &P) -> Refusal
+    ensures newcomer { result ≡ NotCopied
+        → (r : CommitRecord) → IsUndamaged (P.state device.now).lines r (image_of (P.state device.now).words) → r.role ≡ role.Newcomer }
+    ensures cause { (result ≡ NotCopied) ⊎ (result ≡ WrongRole) }
+{
+    match wbl_engine::inspect(alloc, device, LAYOUT) {
+        Ok((current, _)) if current.role == Role::Newcomer => Refusal::NotCopied,
+        _ => Refusal::WrongRole,
     }
 }
 
