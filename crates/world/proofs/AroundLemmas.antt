@@ -1,12 +1,7 @@
 -- What is around the primary still refines the machine's after each kind of change.
-use Rattle.std.proofs.Common.{All, ◌≡◌, inl, inr, ℕ, ◌+◌, ◌<◌, ◌≤◌, true, false, List, [], ◌++◌, map, Vec, Global, sym, ap, subst, ◌∙◌, arith, true≢false}
-use Rattle.model.specs.declared.call.Call.{Call}
-use Rattle.model.specs.Call.{cut_at, position_of}
-use Rattle.model.specs.Standing.{Holder}
-use Rattle.frames.specs.declared.frame.Frame.{Frame}
+use Rattle.std.proofs.Common.{All, ◌≡◌, inl, inr, ℕ, ◌+◌, ◌<◌, ◌≤◌, false, List, [], ◌++◌, map, Vec, Global, sym, ap, subst, ◌∙◌, arith, true≢false}
+use Rattle.world.specs.Words.{Acknowledgement, At, Call, Connection, crashed, cut_at, Frame, Holder, IsFrameWithin, IsStandbyLeft, left, position_of, promoted, reach, Remains, Role, Sent, Sound, World}
 use Rattle.machine.specs.declared.event.Node.TheVariants as node
-use Rattle.machine.specs.Event.{Acknowledgement, At, Connection, Frame as Sent, Remains, Role, World, crashed, left, promoted, reach}
-use Rattle.machine.specs.Sound.{IsFrameWithin, IsStandbyLeft, Sound}
 use Rattle.machine.proofs.GroupLemmas.{frames_within-weaker}
 use Rattle.world.specs.Condition.{has_crashed, has_ended, has_stopped, runs}
 use Rattle.world.specs.declared.condition.Condition.{Condition}

@@ -1,16 +1,8 @@
 -- What came to the standby, and what it acknowledged, still refine the machine's after each step.
 use Rattle.std.proofs.Common.{All, ◌≡◌, ℕ, ◌<◌, ◌≤◌, true, false, nat_lt, List, [], ◌∷◌, ◌++◌, length, take, drop, slice_get, Option, Some, Vec, Global, refl, sym, ap, subst, ◌∙◌, arith}
-use Rattle.std.proofs.lemmas.Option.{slice_get_within}
-use Rattle.std.proofs.lemmas.Bool.{lt-ltb, le-ltb}
-use Rattle.model.specs.declared.call.Call.{Call}
-use Rattle.model.specs.Call.{is_nonempty}
-use Rattle.model.specs.Standing.{Holder}
-use Rattle.machine.specs.Event.{Changes, World, Frame as Sent, Acknowledgement, delivered, option_items, with_standby, with_acknowledged, without_first}
-use Rattle.frames.specs.declared.frame.Frame.{Frame}
-use Rattle.stream_codec.specs.Message.{Sent as Told, IsSent, sent_of_frame, sent_text}
-use Rattle.connections.specs.Going.{Goes}
-use Rattle.std.proofs.lemmas.List.Elements.{All-head}
-use Rattle.machine.proofs.StandbyLemmas.{all-at}
+use Rattle.world.specs.Words.{Acknowledgement, Call, Changes, delivered, Frame, Goes, Holder, is_nonempty, IsSent, option_items, Sent, sent_of_frame, sent_text, with_acknowledged, with_standby, without_first, World}
+use Rattle.world.proofs.Words.{all-at, All-head, le-ltb, lt-ltb, slice_get_within}
+use Rattle.stream_codec.specs.Message.{Sent as Told}
 use Rattle.world.specs.Link.{IsFrameOf, IsFrameSent, IsOwn, AreFramesRead, AreFramesSent, AreAcksSent, span_of}
 use Rattle.world.specs.Standby.{Arrived, Node, ArrivalsRefine, AppliesFirst}
 use Rattle.world.proofs.FrameLemmas.{AreFramesRead-grows, AreFramesRead-push, IsFrameOf-copy, copy_of_read, frame_of_number, length-sent}

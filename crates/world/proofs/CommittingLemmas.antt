@@ -1,58 +1,45 @@
 -- The committer and its engine still refine the machine's after each step.
-use Rattle.std.proofs.Common.{◌≡◌, ◌≢◌, ◌⊎◌, inl, inr, true≢false, ℕ, ◌+◌, ◌-◌, ◌<◌, ◌≤◌, ◌++◌, Bool, true, false, List, [], ◌∷◌, length, map, Result, Err, IfErr, IsErrOf, refl, sym, ap, ap₂, subst, ◌∙◌, arith, le_refl, max}
-use Rattle.std.proofs.Math.Nat.{le-max_left}
-use Rattle.std.proofs.lemmas.List.{map-append}
-use Rattle.pmem.specs.Device.{State}
-use Rattle.pmem.specs.Crash.{IsImage}
-use Rattle.kv_types.specs.declared.refusal.Refusal.{Refusal}
-use Rattle.kv_types.specs.declared.refusal.Refusal.TheVariants.{Fault, Exhausted}
-use Rattle.pmem.specs.Runs.{LeavesOnly}
-use Rattle.pmem.proofs.Leaving.{LeavesOnly-weaken}
-use Rattle.model.specs.declared.call.Call.{Call}
-use Rattle.model.specs.declared.group.Group.{Group}
+use Rattle.std.proofs.Common.{rules, ◌≡◌, ◌≢◌, ◌⊎◌, inl, inr, true≢false, ℕ, ◌+◌, ◌-◌, ◌<◌, ◌≤◌, ◌++◌, Bool, true, false, List, [], ◌∷◌, length, map, Result, Err, IfErr, IsErrOf, Global, refl, sym, ap, ap₂, subst, ◌∙◌, arith, le_refl, max}
+use Rattle.std.specs.declared.collections.VecDeque.{VecDeque}
+use Rattle.world.specs.Words.{after_group, AreGroupsOf, AreLawful, AreWorkOf, Call, Commit, committed_first, Contents, COUNTER_LIMIT, Done, Durable, Exhausted, Exhausts, Fault, Freed, FreeList, from_group, Goes, Group, handed, Holder, Image, IsDurable, IsGroup, IsImage, Keeps, last_position, LeavesOnly, MachineStage, MachineWork, may_happen, PIPE_ITEMS, position_of, positions_of_lists, raised_local, Ready, ready_again, Refusal, Remembers, Same, Sequencing, Shown, Sound, Span, Stage, STAMP_WINDOW, State, Versions, Waiting, Work, World}
+use Rattle.world.proofs.Words.{group_lawful, HasRecord-lines, le-max_left, leads_renumbered, LeavesOnly-weaken, length-groups, map-append, Same-is}
 use Rattle.model.specs.declared.group.Part.{Part}
-use Rattle.model.specs.declared.image.TheConstants.{COUNTER_LIMIT, STAMP_WINDOW}
 use Rattle.model.specs.declared.record.Role.TheVariants as role
-use Rattle.model.specs.declared.work.FreeList.{FreeList}
-use Rattle.model.specs.declared.work.Work.{Work}
 use Rattle.model.specs.declared.work.Work.TheVariants as work
-use Rattle.model.specs.Call.{position_of}
-use Rattle.model.specs.Image.{Image}
-use Rattle.model.proofs.RecordLemmas.{HasRecord-lines}
 use Rattle.model.specs.Floor.{floored}
-use Rattle.model.specs.Group.{AreParts, Contents, IsConsistent, IsGroup, Versions, after_group, last_position, part_versions}
-use Rattle.model.specs.Standing.{Holder}
-use Rattle.wbl_engine.specs.declared.freeing.Freed.{Freed}
-use Rattle.wbl_engine.specs.Contents.{Exhausts, Keeps, IsDurable, Same}
-use Rattle.wbl_engine.specs.Lawful.{AreLawful}
-use Rattle.wbl_engine.proofs.LawfulLemmas.{group_lawful, same_lawful}
-use Rattle.redis_core.specs.Sequencing.{Sequencing}
-use Rattle.pipes.specs.Waiting.{Waiting}
+use Rattle.model.specs.Group.{AreParts, IsConsistent, part_versions}
+use Rattle.wbl_engine.proofs.LawfulLemmas.{same_lawful}
+use Rattle.group_commit.specs.Committing.{HasCommitted, HasShown}
 use Rattle.group_commit.specs.Group.{AreWork, groups_of}
-use Rattle.group_commit.specs.declared.stage.Done.{Done}
-use Rattle.group_commit.specs.declared.stage.Stage.{Stage}
-use Rattle.group_commit.specs.declared.stage.Stage.TheVariants.{Ready, Durable, Shown}
-use Rattle.group_commit.proofs.GroupsLemmas.{Same-is}
 use Rattle.group_commit.proofs.WorkLemmas.{AreWork-behind, groups_of-lists}
-use Rattle.machine.specs.declared.event.TheConstants.{PIPE_ITEMS}
-use Rattle.machine.specs.declared.event.Event.TheVariants.{Commit, Hand, RaiseLocal}
-use Rattle.machine.specs.Event.{Committer as Machine, Stage as MachineStage, Span, Work as MachineWork, World, committed_first, from_group, handed, may_happen, is_durable, is_shown, raised_local, ready_again, shown}
+use Rattle.machine.specs.declared.event.Event.TheVariants.{Hand, RaiseLocal}
+use Rattle.machine.specs.Event.{Committer as Machine, is_durable, is_shown, shown}
 use Rattle.machine.specs.World as machine_stage
-use Rattle.machine.specs.Sound.{HasRoomFor, Sound}
+use Rattle.machine.specs.Sound.{HasRoomFor}
 use Rattle.world.specs.Cause.{IsAtLimit, EndsBy}
 use Rattle.world.specs.Committing.{AreContentsAt, AreOfEpoch, Committing, CommittingRefines, EngineStands, Leads, StageRefines, OpensAtEither, NearOnly, next_primary}
-use Rattle.connections.specs.Going.{Goes}
-use Rattle.node_steps.specs.GroupSpan.{AreGroupsOf, AreWorkOf, IsGroupOf, positions_of_lists}
-use Rattle.primary.specs.Recalling.{Remembers}
 use Rattle.primary.proofs.RecallParts.{remembers-committed}
 use Rattle.world.specs.Recalling.{RemembersFor, past_of}
 use Rattle.world.proofs.EngineLemmas.{AreContentsAt-after_group, Opens-engine, keeps-opens, rests-same}
 use Rattle.node_steps.proofs.CommittingLemmas.{FirstGroup, first-group}
-use Rattle.node_steps.proofs.GroupSpanLemmas.{AreGroupsOf-push, length-groups}
+use Rattle.node_steps.proofs.GroupSpanLemmas.{AreGroupsOf-grows, AreGroupsOf-push}
+use Rattle.node_steps.proofs.QueueLemmas.{AreWorkOf-grows}
 use Rattle.primary.proofs.LeadsLemmas.{leads-after}
-use Rattle.primary.proofs.NumberedLemmas.{lawful_renumbered, leads_renumbered}
+use Rattle.primary.proofs.NumberedLemmas.{lawful_renumbered}
 use Rattle.world.proofs.RecallLemmas.{remembered-from, remembers-raised, remembers-renumbered}
 use Rattle.world.proofs.RoleLemmas.{newcomer_serves}
+
+-- ---- while the list grows
+
+StageRefines-grows : (calls more : List Call) (code : Stage) (machine : MachineStage) → StageRefines calls code machine → StageRefines (calls ++ more) code machine
+StageRefines-grows calls more Ready machine_stage.Ready stands = tt
+StageRefines-grows calls more (Durable groups) (machine_stage.Durable span) stands = AreGroupsOf-grows calls more groups.items (span ∷ []) stands
+StageRefines-grows calls more (Shown groups) (machine_stage.Shown span) stands = AreGroupsOf-grows calls more groups.items (span ∷ []) stands
+StageRefines-grows calls more code machine stands = absurd stands
+
+pub CommittingRefines-grows : (calls more : List Call) (code : Committing) (machine : Machine) → CommittingRefines calls code machine → CommittingRefines (calls ++ more) code machine
+CommittingRefines-grows calls more code machine stands =
+    search (rules, AreWorkOf-grows calls more code.waiting.items machine.waiting stands.work, StageRefines-grows calls more code.stage machine.stage stands.stage_is, stands)
 
 -- ---- a group that waits behind free lists
 
@@ -134,7 +121,7 @@ next-group holder calls position contents old lists group new machine at takes s
 
 -- the first group that waits is committed, and the lists before it go aside
 pub commit-goes : (holder : Holder) (w : World) (remote : ℕ) (old : Committing) (lists : List FreeList) (group : Group) (new : Committing) (device device' : State) (contents contents' : Contents) (is_faulted is_faulted' : Bool)
-    → TakesLawful contents old lists group new → new.stage ≡ Durable group → new.local ≡ old.local → (is_faulted ≡ false → Exhausts contents group → ⊥)
+    → TakesLawful contents old lists group new → HasCommitted (group ∷ []) new.stage → new.local ≡ old.local → (is_faulted ≡ false → Exhausts contents group → ⊥)
     → Same (made remote contents group) contents' → IsDurable device' contents' → is_faulted' ≡ false
     → CommittingRefines w.primary.calls old w.primary.committer → EngineStands holder w.primary.calls w.primary.committer.position device contents is_faulted
     → CommittingRefines w.primary.calls new (committed_first (from_group w.primary.committer.waiting) w.primary.committer)
@@ -149,7 +136,7 @@ commit-goes holder w remote old lists group new device device' contents contents
         work = next.firsts.are;
         aside = ap positions_of_lists takes.set_aside ∙ map-append (λ (list : FreeList). list.position) old.aside lists
             ∙ ap₂ (λ (xs ys : List ℕ). xs ++ ys) stands.aside next.firsts.before;
-        stage_is = subst (λ stage. StageRefines calls stage (machine_stage.Durable span)) (sym durable) next.firsts.is;
+        stage_is = subst (λ stage. StageRefines calls stage (machine_stage.Durable span)) (sym durable.1) (subst (λ groups. AreGroupsOf calls groups (span ∷ [])) (sym durable.2) (next.firsts.is, tt));
         local_is = local ∙ stands.local_is;
       },
       record {
@@ -291,11 +278,11 @@ commit-ends holder w remote old lists group new device device' contents is_fault
 -- ---- a group shown
 
 -- the mark of a group that has committed is raised
-pub raise-goes : (w : World) (old new : Committing) (group : Group) (position : ℕ) (stayed : Type 0) → old.stage ≡ Durable group → new.waiting ≡ old.waiting → new.aside ≡ old.aside → new.stage ≡ Shown group → new.local ≡ position
+pub raise-goes : (w : World) (old new : Committing) (groups : VecDeque Group Global) (position : ℕ) (stayed : Type 0) → old.stage ≡ Durable groups → new.waiting ≡ old.waiting → new.aside ≡ old.aside → new.stage ≡ Shown groups → new.local ≡ position
     → CommittingRefines w.primary.calls old w.primary.committer → position ≡ w.primary.committer.position
     → Goes (may_happen w RaiseLocal) true (CommittingRefines w.primary.calls new (raised_local w.primary.committer)) stayed
-raise-goes w old new group position stayed durable waiting beside shows local stands at =
-    let in_hand : StageRefines w.primary.calls (Durable group) w.primary.committer.stage = subst (λ stage. StageRefines w.primary.calls stage w.primary.committer.stage) durable stands.stage_is in
+raise-goes w old new groups position stayed durable waiting beside shows local stands at =
+    let in_hand : StageRefines w.primary.calls (Durable groups) w.primary.committer.stage = subst (λ stage. StageRefines w.primary.calls stage w.primary.committer.stage) durable stands.stage_is in
     record {
       done = sym (may w.primary.committer.stage in_hand);
       goes = λ did. record {
@@ -307,56 +294,70 @@ raise-goes w old new group position stayed durable waiting beside shows local st
       stays = λ did. absurd (true≢false did);
     }
   where
-    may : (machine : MachineStage) → StageRefines w.primary.calls (Durable group) machine → is_durable machine ≡ true
+    may : (machine : MachineStage) → StageRefines w.primary.calls (Durable groups) machine → is_durable machine ≡ true
     may (machine_stage.Durable span) stands = refl
     may machine stands = absurd stands
 
-    stage_shown : (machine : MachineStage) → StageRefines w.primary.calls (Durable group) machine → StageRefines w.primary.calls (Shown group) (shown machine)
+    stage_shown : (machine : MachineStage) → StageRefines w.primary.calls (Durable groups) machine → StageRefines w.primary.calls (Shown groups) (shown machine)
     stage_shown (machine_stage.Durable span) stands = stands
     stage_shown machine stands = absurd stands
 
 -- no group has committed that was not shown
-pub raise-none : (calls : List Call) (stage : Stage) (machine : MachineStage) → ((group : Group) → stage ≡ Durable group → ⊥) → StageRefines calls stage machine → false ≡ is_durable machine
+pub raise-none : (calls : List Call) (stage : Stage) (machine : MachineStage) → ((groups : VecDeque Group Global) → stage ≡ Durable groups → ⊥) → StageRefines calls stage machine → false ≡ is_durable machine
 raise-none calls Ready (machine_stage.Durable span) none stands = absurd stands
-raise-none calls (Durable group) machine none stands = absurd (none group refl)
-raise-none calls (Shown group) (machine_stage.Durable span) none stands = absurd stands
+raise-none calls (Durable groups) machine none stands = absurd (none groups refl)
+raise-none calls (Shown groups) (machine_stage.Durable span) none stands = absurd stands
 raise-none calls stage machine none stands = refl
 
 -- no group was shown that was not handed on
-pub hand-none : (calls : List Call) (stage : Stage) (machine : MachineStage) → ((group : Group) → stage ≡ Shown group → ⊥) → StageRefines calls stage machine → false ≡ is_shown machine
+pub hand-none : (calls : List Call) (stage : Stage) (machine : MachineStage) → ((groups : VecDeque Group Global) → stage ≡ Shown groups → ⊥) → StageRefines calls stage machine → false ≡ is_shown machine
 hand-none calls Ready (machine_stage.Shown span) none stands = absurd stands
-hand-none calls (Durable group) (machine_stage.Shown span) none stands = absurd stands
-hand-none calls (Shown group) machine none stands = absurd (none group refl)
+hand-none calls (Durable groups) (machine_stage.Shown span) none stands = absurd stands
+hand-none calls (Shown groups) machine none stands = absurd (none groups refl)
 hand-none calls stage machine none stands = refl
 
 -- --
 -- the machine has shown the span of the group in hand
-record ShowsSpan (calls : List Call) (group : Group) (machine : MachineStage) : Type 0 where
+record ShowsSpan (calls : List Call) (groups : List Group) (machine : MachineStage) : Type 0 where
   pub span : Span
   pub shows : machine ≡ machine_stage.Shown span
-  pub is : IsGroupOf calls group span
+  pub are : AreGroupsOf calls groups (span ∷ [])
 
-shows-span : (calls : List Call) (group : Group) (machine : MachineStage) → StageRefines calls (Shown group) machine → ShowsSpan calls group machine
-shows-span calls group (machine_stage.Shown span) stands = record { span = span; shows = refl; is = stands }
-shows-span calls group machine stands = absurd stands
+shows-span : (calls : List Call) (groups : VecDeque Group Global) (machine : MachineStage) → StageRefines calls (Shown groups) machine → ShowsSpan calls groups.items machine
+shows-span calls groups (machine_stage.Shown span) stands = record { span = span; shows = refl; are = stands }
+shows-span calls groups machine stands = absurd stands
+
+-- so there is one
+pub none-shown : (calls : List Call) (stage : Stage) (groups : VecDeque Group Global) (machine : MachineStage) → stage ≡ Shown groups → StageRefines calls stage machine → groups.items ≡ [] → ⊥
+none-shown calls stage groups machine was stands none =
+    let shows = shows-span calls groups machine (subst (λ stage. StageRefines calls stage machine) was stands) in
+    subst (λ gs. AreGroupsOf calls gs (shows.span ∷ [])) none shows.are
+
+-- and none behind it
+none-behind : (calls : List Call) (group : Group) (rest : List Group) (span : Span) → AreGroupsOf calls (group ∷ rest) (span ∷ []) → rest ≡ []
+none-behind calls group [] span are = refl
+none-behind calls group (next ∷ rest) span are = absurd are.1
 
 -- the link has room for the group in hand
-pub hand-room : (w : World) (stage : Stage) (group : Group) (link : List Group) → stage ≡ Shown group → Sound w → StageRefines w.primary.calls stage w.primary.committer.stage
+pub hand-room : (w : World) (stage : Stage) (groups : VecDeque Group Global) (link : List Group) → stage ≡ Shown groups → Sound w → StageRefines w.primary.calls stage w.primary.committer.stage
     → AreGroupsOf w.primary.calls link w.primary.link.waiting → length link < PIPE_ITEMS
-hand-room w stage group link was sound stands are =
-    let shows = shows-span w.primary.calls group w.primary.committer.stage (subst (λ stage. StageRefines w.primary.calls stage w.primary.committer.stage) was stands) in
+hand-room w stage groups link was sound stands are =
+    let shows = shows-span w.primary.calls groups w.primary.committer.stage (subst (λ stage. StageRefines w.primary.calls stage w.primary.committer.stage) was stands) in
     let room : length w.primary.link.waiting < PIPE_ITEMS = subst (λ stage. HasRoomFor stage w.primary.link.waiting) shows.shows sound.link.few in
     omega (arith, room, length-groups w.primary.calls link w.primary.link.waiting are)
 
 -- the group in hand goes to the link
-pub hand-goes : (w : World) (old new : Committing) (group : Group) (link link' : List Group) → old.stage ≡ Shown group → new.waiting ≡ old.waiting → new.aside ≡ old.aside → new.stage ≡ Ready → new.local ≡ old.local
+pub hand-goes : (w : World) (old new : Committing) (groups : VecDeque Group Global) (group : Group) (rest link link' : List Group) → old.stage ≡ Shown groups → groups.items ≡ group ∷ rest
+    → new.waiting ≡ old.waiting → new.aside ≡ old.aside → HasShown rest new.stage → new.local ≡ old.local
     → link' ≡ link ++ group ∷ [] → CommittingRefines w.primary.calls old w.primary.committer → AreGroupsOf w.primary.calls link w.primary.link.waiting
     → Goes (may_happen w Hand) true
     (CommittingRefines w.primary.calls new (ready_again w.primary.committer) × AreGroupsOf w.primary.calls link' (w.primary.link.waiting ++ handed w.primary.committer.stage))
     (CommittingRefines w.primary.calls new w.primary.committer × AreGroupsOf w.primary.calls link' w.primary.link.waiting)
-hand-goes w old new group link link' was waiting beside ready local offered stands are =
+hand-goes w old new groups group rest link link' was first waiting beside left local offered stands are =
     let calls = w.primary.calls in
-    let shows = shows-span calls group w.primary.committer.stage (subst (λ stage. StageRefines calls stage w.primary.committer.stage) was stands.stage_is) in
+    let shows = shows-span calls groups w.primary.committer.stage (subst (λ stage. StageRefines calls stage w.primary.committer.stage) was stands.stage_is) in
+    let in_hand = subst (λ gs. AreGroupsOf calls gs (shows.span ∷ [])) first shows.are in
+    let ready : new.stage ≡ Ready = subst (λ gs. HasShown gs new.stage) (none-behind calls group rest shows.span in_hand) left in
     record {
       done = sym (ap is_shown shows.shows);
       goes = λ did. (
@@ -367,7 +368,7 @@ hand-goes w old new group link link' was waiting beside ready local offered stan
           local_is = local ∙ stands.local_is;
         },
         subst (λ stage. AreGroupsOf calls link' (w.primary.link.waiting ++ handed stage)) (sym shows.shows)
-            (subst (λ groups. AreGroupsOf calls groups (w.primary.link.waiting ++ shows.span ∷ [])) (sym offered) (AreGroupsOf-push calls link w.primary.link.waiting group shows.span are shows.is)),
+            (subst (λ groups. AreGroupsOf calls groups (w.primary.link.waiting ++ shows.span ∷ [])) (sym offered) (AreGroupsOf-push calls link w.primary.link.waiting group shows.span are in_hand.0)),
       );
       stays = λ did. cc;
     }

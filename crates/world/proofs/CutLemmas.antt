@@ -1,19 +1,10 @@
 -- A crash of the primary cuts the list of calls: what stands at positions up to the cut still stands.
 use Rattle.std.proofs.Common.{rules, ◌≡◌, ℕ, ◌≤◌, inl, inr, Bool, List, ◌∷◌, All, Vec, Global, sym, ap, subst, ◌∙◌, arith, []}
-use Rattle.std.proofs.lemmas.Bool.{cases_lt}
-use Rattle.std.proofs.lemmas.List.Elements.{All-head, All-tail}
-use Rattle.kv_types.specs.Keyspace.{play_all}
-use Rattle.pmem.specs.Device.{State}
-use Rattle.model.specs.declared.call.Call.{Call}
-use Rattle.model.specs.Call.{keyspace_after, cut_at, position_of}
-use Rattle.model.specs.Image.{IsMapOf}
-use Rattle.model.specs.Group.{Contents, entries_of}
-use Rattle.model.specs.Standing.{Holder}
-use Rattle.model.proofs.CallsLemmas.{IsPrefix-cut_at, cut_at-all, position_of-cut_at}
-use Rattle.machine.specs.Event.{Changes, Role, Span, Told, Frame as Sent, Acknowledgement}
-use Rattle.machine.specs.Sound.{IsFrameWithin, IsGroupWithin, IsToldOf}
+use Rattle.world.specs.Words.{Acknowledgement, Call, Changes, Contents, cut_at, entries_of, Frame, Holder, IsFrameWithin, IsMapOf, keyspace_after, play_all, position_of, Role, Sent, Span, State, Told}
+use Rattle.world.proofs.Words.{All-head, All-tail, cases_lt, position_of-cut_at}
+use Rattle.model.proofs.CallsLemmas.{IsPrefix-cut_at, cut_at-all}
+use Rattle.machine.specs.Sound.{IsGroupWithin, IsToldOf}
 use Rattle.machine.proofs.GrowLemmas.{cuts-stay}
-use Rattle.frames.specs.declared.frame.Frame.{Frame}
 use Rattle.world.specs.Committing.{AreContentsAt, EngineStands, IsDown}
 use Rattle.world.specs.Link.{LiesWithin, IsFrameOf, IsFrameRead, AreFramesRead, AreFramesSent, span_of}
 use Rattle.world.specs.Standby.{Arrived, Node, StandbyStands, ArrivalsRefine}

@@ -1,36 +1,19 @@
 -- The images of nodes that crashed: what a crash leaves of an engine over the list of calls, and what a reopening makes of it.
 use Rattle.std.proofs.Common.{◌≡◌, ◌⊎◌, inl, inr, ℕ, ◌<◌, ◌≤◌, Bool, false, List, ◌∷◌, ◌++◌, length, refl, sym, ap, subst, ◌∙◌, arith, [], rules}
 use Rattle.std.proofs.lemmas.List.{length-append}
-use Rattle.kv_types.specs.declared.place.EntryNo.{EntryNo}
-use Rattle.kv_types.specs.declared.refusal.Refusal.{Refusal}
-use Rattle.kv_types.specs.declared.refusal.Refusal.TheVariants.{Exhausted, Memory}
-use Rattle.pmem.specs.Device.{State, Word}
-use Rattle.pmem.specs.Crash.{IsImage, IsSettled, image_of}
-use Rattle.pmem.specs.Runs.{LeavesOnly}
-use Rattle.pmem.proofs.Leaving.{LeavesOnly-weaken}
+use Rattle.world.specs.Words.{Call, Contents, cut_at, entries_of, EntryNo, Exhausted, ExhaustsReopening, HasRecord, Holder, Holds, Image, image_of, IsDurable, IsImage, IsMapOf, IsSettled, IsUndamaged, Keeps, keyspace_after, layout_in, LeavesOnly, Memory, position_of, Record, Refusal, RefusesReopening, State, StaysReadable, Word}
+use Rattle.world.proofs.Words.{AreContentsAt-grows, entries_same, HasRecord-lines, Holds-versions, lawful_undamaged, LeavesOnly-weaken}
 use Rattle.pmem.proofs.Staging.{IsImage-settled}
-use Rattle.model.specs.declared.call.Call.{Call}
 use Rattle.model.specs.declared.layout.Layout.{Layout}
-use Rattle.model.specs.declared.record.Record.{Record}
 use Rattle.model.specs.declared.record.Role.{Role}
-use Rattle.model.specs.Call.{keyspace_after, cut_at, position_of}
-use Rattle.model.specs.Image.{Image, IsMapOf, HasRecord, Holds, entries_of_lines}
-use Rattle.model.proofs.RecordLemmas.{HasRecord-lines}
-use Rattle.model.specs.Group.{Contents, entries_of}
-use Rattle.model.specs.Standing.{Holder}
-use Rattle.model.proofs.DirectoryLemmas.{entries_same}
+use Rattle.model.specs.Image.{entries_of_lines}
 use Rattle.model.proofs.MapLemmas.{IsMapOf-same}
-use Rattle.model.proofs.StandingLemmas.{Holds-versions}
-use Rattle.wbl_engine.specs.Contents.{Keeps, IsDurable}
-use Rattle.wbl_engine.specs.Lawful.{IsUndamaged}
-use Rattle.wbl_engine.specs.Reopening.{ExhaustsReopening, KeepsThrough, RefusesReopening, Reopens, StaysReadable, layout_in, open_gap, reopened, with_room}
-use Rattle.wbl_engine.proofs.LawfulLemmas.{lawful_undamaged}
+use Rattle.wbl_engine.specs.Reopening.{KeepsThrough, Reopens, open_gap, reopened, with_room}
 use Rattle.wbl_engine.proofs.ReopeningLaws.{keeps_through, lawful_refusal, reopening_lawful}
 use Rattle.wbl_engine.proofs.ReadingLemmas.{layout_in_is}
 use Rattle.wbl_engine.proofs.RoomLemmas.{room_cases, room_layout}
 use Rattle.primary.proofs.KeptImages.{reopened-floor}
 use Rattle.world.specs.Committing.{AreContentsAt, EngineStands, IsDown, Moves, Opens, OpensAt, OpensAtEither}
-use Rattle.node_steps.proofs.EngineLemmas.{AreContentsAt-grows}
 use Rattle.world.proofs.EngineLemmas.{Opens-engine, keeps-opens}
 
 -- ---- words with one candidate

@@ -1,22 +1,9 @@
 -- An engine over the list of calls: what its contents say of images, and how they stay and move with the list.
 use Rattle.std.proofs.Common.{◌≡◌, ℕ, ◌+◌, ◌-◌, Bool, List, inl, inr, refl, sym, ap, subst, ◌∙◌, arith}
-use Rattle.kv_types.specs.Keyspace.{play_all}
-use Rattle.pmem.specs.Device.{State}
-use Rattle.pmem.proofs.Leaving.{none_leaves}
-use Rattle.model.specs.declared.call.Call.{Call}
-use Rattle.model.specs.declared.group.Group.{Group}
-use Rattle.model.specs.Call.{keyspace_after, cut_at}
-use Rattle.model.specs.Image.{Image, IsMapOf, Holds}
-use Rattle.model.specs.Group.{Contents, IsGroup, after_group, changes_of_group, last_position, entries_of}
-use Rattle.model.specs.Standing.{Holder}
+use Rattle.world.specs.Words.{after_group, AreLawful, Call, Contents, cut_at, entries_of, Group, Holder, Holds, Image, IsGroup, IsGroupOf, IsMapOf, IsUndamaged, Keeps, keyspace_after, last_position, play_all, Span, State}
+use Rattle.world.proofs.Words.{Holds-versions, keyspace_after-cut_at-since, lawful_undamaged, none_leaves}
+use Rattle.model.specs.Group.{changes_of_group}
 use Rattle.model.proofs.GroupsLemmas.{IsMapOf-after_group, IsConsistent-after_group}
-use Rattle.model.proofs.PositionsLemmas.{keyspace_after-cut_at-since}
-use Rattle.model.proofs.StandingLemmas.{Holds-versions}
-use Rattle.wbl_engine.specs.Contents.{Keeps}
-use Rattle.wbl_engine.specs.Lawful.{AreLawful, IsUndamaged}
-use Rattle.wbl_engine.proofs.LawfulLemmas.{lawful_undamaged}
-use Rattle.machine.specs.Event.{Span}
-use Rattle.node_steps.specs.GroupSpan.{IsGroupOf}
 use Rattle.world.specs.Committing.{AreContentsAt, EngineStands, Moves, Rests, Opens, OpensAt, OpensAtEither, NearOnly}
 
 -- ---- what a crash leaves

@@ -1,55 +1,33 @@
 -- New images, the tables and heaps with which they begin, and a primary that nothing waits for.
 use Rattle.std.proofs.Common.{rules, ◌≡◌, ℕ, ◌<◌, ◌≤◌, ◌⊎◌, ◌↔◌, Bool, false, true≢false, IsTrue, ◌∙◌, List, ◌∷◌, length, Ok, Err, refl, sym, ap, subst, arith, inl, inr, Vec, Global, []}
-use Rattle.std.proofs.lemmas.Bool.{cases_lt}
+use Rattle.world.specs.Words.{AreEnded, AreWorkOf, Call, Contents, entries_of, EntryNo, Expects, Fault, Follows, Freed, FreeList, Holder, IsAheadOf, IsDurable, IsFormatting, MAX_LINES, MIN_LINES, new_committer, new_holder, new_stream, positions_of_lists, Ready, records, Refusal, Room, seats_of, SeatsFollow, SequencerRefines, Sequencing, Stage, State, Stream, Table, Work, WrongSize}
+use Rattle.world.proofs.Words.{All-nil, cases_lt, HasAll, none_leaves, sound-start}
 use Rattle.model.specs.declared.layout.TheConstants.{LAYOUT}
 use Rattle.model.specs.Layout.{entries_of_lines, first_extent_line}
-use Rattle.model.specs.declared.image.TheConstants.{MAX_LINES, MIN_LINES}
-use Rattle.model.specs.Group.{AreEnded, Contents, entries_of}
-use Rattle.model.specs.declared.group.Group.{Group}
-use Rattle.model.specs.declared.work.FreeList.{FreeList}
-use Rattle.model.specs.declared.work.Work.{Work}
-use Rattle.model.specs.declared.call.Call.{Call}
 use Rattle.model.specs.declared.record.Role.{Role}
 use Rattle.model.specs.declared.record.Gap.{Gap}
 use Rattle.model.specs.declared.record.TheConstants.{FIRST_EPOCH}
 use Rattle.model.proofs.MapLemmas.{IsMapOf-none}
-use Rattle.model.specs.Standing.{Holder, new_holder}
-use Rattle.pmem.specs.Device.{State}
-use Rattle.pmem.proofs.Leaving.{none_leaves}
-use Rattle.kv_types.specs.declared.place.EntryNo.{EntryNo}
-use Rattle.extent_heap.specs.Room.{Room, fresh_room, is_free_entry, is_free_line}
+use Rattle.extent_heap.specs.Room.{fresh_room, is_free_entry, is_free_line}
 use Rattle.placing.specs.Back.{HasOut}
 use Rattle.placing.proofs.BackLemmas.{fresh-has_out}
-use Rattle.mv_keyspace.specs.Table.{Table, records}
-use Rattle.wbl_engine.specs.declared.freeing.Freed.{Freed}
-use Rattle.wbl_engine.specs.Contents.{IsNew, IsDurable}
-use Rattle.wbl_engine.specs.Formatting.{IsFormatting}
+use Rattle.wbl_engine.specs.Contents.{IsNew}
 use Rattle.wbl_engine.proofs.LawfulLemmas.{new_lawful}
-use Rattle.redis_core.specs.Sequencing.{Expects, Sequencing, IsAheadOf, Underlies}
-use Rattle.standby_stream.specs.Stream.{Stream, new_stream}
-use Rattle.standby.proofs.NewLemmas.{HasAll, new-table, left-new, new-consistent, follows-new}
-use Rattle.standby.specs.Following.{Follows}
-use Rattle.machine.specs.Event.{new_committer}
-use Rattle.machine.proofs.RunLemmas.{sound-start}
-use Rattle.kv_types.specs.declared.refusal.Refusal.{Refusal}
-use Rattle.kv_types.specs.declared.refusal.Refusal.TheVariants.{Fault, WrongSize}
+use Rattle.redis_core.specs.Sequencing.{Underlies}
+use Rattle.standby.proofs.NewLemmas.{new-table, left-new, new-consistent, follows-new}
 use Rattle.world.specs.Cause.{IsWrongSize, UnformedBy}
-use Rattle.group_commit.specs.declared.stage.Stage.{Stage}
-use Rattle.group_commit.specs.declared.stage.Stage.TheVariants.{Ready}
 use Rattle.world.specs.Committing.{Committing, CommittingRefines, FormattingOnly, EngineStands, Leads, StageRefines}
-use Rattle.node_steps.specs.GroupSpan.{AreGroupsOf, AreWorkOf, positions_of_lists}
-use Rattle.world.specs.Link.{AreFramesSent, IsOwn, LinkRefines}
-use Rattle.connections.specs.Session.{ConnectionsRefine, SequencerRefines, SeatsFollow, seats_of}
+use Rattle.world.specs.Link.{AreFramesSent, IsOwn}
+use Rattle.connections.specs.Session.{ConnectionsRefine}
 use Rattle.connections.specs.declared.connection.Connection.{Connection}
 use Rattle.world.specs.Standby.{Node, StandbyStands, ArrivalsRefine}
 use Rattle.world.specs.Headline.{start}
 use Rattle.world.specs.Condition.{has_crashed, life_as, runs, has_stopped}
 use Rattle.world.specs.declared.condition.Condition.TheVariants as condition
-use Rattle.std.proofs.lemmas.List.Elements.{All-nil}
 use Rattle.world.specs.Pair.{NodesRefine, Pair, allowed, primary_number, ClientsRefine, Lives}
-use Rattle.world.proofs.RecallLemmas.{remembered-new}
+use Rattle.world.proofs.RecallLemmas.{remembered-new, opening-none}
 use Rattle.world.specs.Recalling.{RemembersFor, past_of}
-use Rattle.world.proofs.OpeningLemmas.{opening-none}
+use Rattle.world.proofs.LinkLemmas.{link-nothing}
 
 -- ---- the sequencer
 
@@ -188,19 +166,7 @@ pair-starts first second pair sessions sequencer none_ended none none_aside read
               (subst (λ (lists : List FreeList). RemembersFor 0 0 (past_of []) pair.primary.contents [] lists pair.primary.sequencer) (sym none_aside)
               (remembered-new (past_of []) pair.primary.contents pair.primary.sequencer unfreed));
           opening = opening-none 0 [] pair.wire.opening never_opened.0 never_opened.1;
-          link = subst (λ (s : Stream). LinkRefines [] s pair.primary.handed pair.wire.remote start.primary.link) (sym link)
-              (record {
-                waiting = subst (λ (groups : List Group). AreGroupsOf [] groups []) (sym no_group) tt;
-                none_pending = refl;
-                delta = tt;
-                kept = tt;
-                next_within = omega arith;
-                again = refl;
-                known = refl;
-                remote_is = remote;
-                copying_is = refl;
-                dropped_is = refl;
-              });
+          link = link-nothing [] pair.wire.link pair.primary.handed pair.wire.remote _ no_group link remote;
         },
       );
     }

@@ -1,18 +1,9 @@
 -- Frames, the spans of the groups that they carry, and the list of calls that both are of.
 use Rattle.std.proofs.Common.{◌≡◌, ℕ, zero, suc, ◌<◌, List, [], ◌∷◌, ◌++◌, length, Some, Vec, Global, true, nat_lt, slice_index_or, refl, sym, ap, subst, ◌∙◌, arith, rules, ap₂}
-use Rattle.std.proofs.lemmas.Bool.{ltb-true}
-use Rattle.std.proofs.lemmas.Option.{slice_get-get_or}
+use Rattle.world.specs.Words.{Ack, Acknowledged, Acknowledgement, Call, changes_size, cut_at, Frame, IsSent, IsWithinLimits, keyspace_after, play_all, Sent, sent_of_ack, sent_of_frame, Span}
+use Rattle.world.proofs.Words.{keyspace_after-cut_at-append, ltb-true, position_of_grows, slice_get-get_or}
 use Rattle.std.specs.Prelude.{slice_get}
-use Rattle.model.specs.declared.call.Call.{Call}
-use Rattle.kv_types.specs.Change.{changes_size}
-use Rattle.kv_types.specs.Keyspace.{play_all}
-use Rattle.model.specs.Call.{cut_at, keyspace_after}
-use Rattle.model.proofs.CallsLemmas.{keyspace_after-cut_at-append, position_of_grows}
-use Rattle.machine.specs.Event.{Span, Frame as Sent, Acknowledgement}
-use Rattle.frames.specs.declared.frame.Frame.{Frame}
 use Rattle.frames.specs.Copy.{IsCopy}
-use Rattle.stream_codec.specs.Message.{Acknowledged, IsSent, IsWithinLimits, sent_of_frame, sent_of_ack}
-use Rattle.frames.specs.declared.ack.Ack.{Ack}
 use Rattle.world.specs.Standby.{told_by}
 use Rattle.world.specs.Link.{LiesWithin, IsFrameOf, AreFramesOf, IsFrameRead, AreFramesRead, IsFrameSent, AreFramesSent, IsAckSent, AreAcksSent, span_of}
 

@@ -1,32 +1,12 @@
 -- What freeing, and clearing a gap, leave of the primary's engine.
 use mathlib.Core.Path.{fun_ext}
 use Rattle.std.proofs.Common.{rules, arith, ◌≡◌, ◌⊎◌, ◌+◌, ◌<◌, ◌≤◌, ℕ, inl, inr, Bool, true, false, ◌||◌, List, refl, sym, ap, subst, ◌∙◌, true≢false, []}
-use Rattle.std.proofs.lemmas.Bool.{cases_lt}
+use Rattle.world.specs.Words.{after_free, AreEnded, AreLawful, Call, cleared_contents, Clears, Contents, COUNTER_LIMIT, cut_at, entries_of, EntryNo, Event, ExhaustsRaising, floor_raised, Happens, Holder, Image, IsDurable, IsMapOf, Keeps, KeepsFreed, keyspace_after, LeavesOnly, may_happen, Record, Same, State, torn, Versions, without, World}
+use Rattle.world.proofs.Words.{AllEnded, AllEnded-listed, cases_lt, entries_same, lawful_raised, lawful_without, LeavesOnly-weaken, Same-is}
 use Rattle.std.specs.List.{IsDistinct}
-use Rattle.kv_types.specs.declared.place.EntryNo.{EntryNo}
-use Rattle.pmem.specs.Device.{State}
-use Rattle.pmem.specs.Runs.{LeavesOnly}
-use Rattle.pmem.proofs.Leaving.{LeavesOnly-weaken}
-use Rattle.model.specs.declared.call.Call.{Call}
-use Rattle.model.specs.declared.image.TheConstants.{COUNTER_LIMIT}
-use Rattle.model.specs.declared.record.Record.{Record}
 use Rattle.model.specs.declared.record.Role.TheVariants as role
-use Rattle.model.specs.Call.{cut_at, keyspace_after}
-use Rattle.model.specs.Floor.{floor_raised}
-use Rattle.model.specs.Group.{AreEnded, Contents, Versions, after_free, without, entries_of}
-use Rattle.model.specs.Image.{Image, IsMapOf}
-use Rattle.model.proofs.DirectoryLemmas.{entries_same}
-use Rattle.model.specs.Standing.{Holder}
-use Rattle.wbl_engine.specs.Contents.{IsDurable, Keeps, Same}
-use Rattle.wbl_engine.specs.Freeing.{Clears, KeepsFreed, cleared_contents}
-use Rattle.wbl_engine.specs.Lawful.{AreLawful}
-use Rattle.wbl_engine.specs.Raising.{ExhaustsRaising}
-use Rattle.wbl_engine.proofs.WithoutLemmas.{AllEnded, IsMapOf-contents_without, consistent_cleared, consistent_without, lawful_cleared, lawful_without}
-use Rattle.group_commit.proofs.FreedLemmas.{AllEnded-listed}
-use Rattle.group_commit.proofs.GroupsLemmas.{Same-is}
-use Rattle.primary.proofs.NumberedLemmas.{ended_renumbered, lawful_raised}
-use Rattle.machine.specs.declared.event.Event.{Event}
-use Rattle.machine.specs.Event.{World, Happens, may_happen, torn}
+use Rattle.wbl_engine.proofs.WithoutLemmas.{IsMapOf-contents_without, consistent_cleared, consistent_without, lawful_cleared}
+use Rattle.primary.proofs.NumberedLemmas.{ended_renumbered}
 use Rattle.world.specs.Committing.{AreContentsAt, EngineStands, OpensAt, OpensAtEither, NearOnly}
 use Rattle.world.specs.Pair.{Lives, Pair, PairRefines, PartsRefine, Steps}
 use Rattle.world.proofs.RemainLemmas.{near-from}

@@ -1,101 +1,22 @@
 -- What one event of the machine gives: to the list of calls, and to each connection.
-use Rattle.std.proofs.Common.{◌≡◌, ◌⊎◌, ℕ, zero, suc, Bool, true, false, cond, nat_eq, eqb-true, List, [], ◌∷◌, ◌++◌, take, Option, slice_get, refl, sym, ap, subst, ◌∙◌, inl, inr, true≢false}
+use Rattle.std.proofs.Common.{◌≡◌, ◌⊎◌, ℕ, zero, suc, Bool, true, false, cond, nat_eq, eqb-true, List, [], ◌∷◌, ◌++◌, take, Option, slice_get, refl, sym, ap, ap₂, subst, ◌∙◌, inl, inr, true≢false, not, ◌&&◌}
 use Rattle.std.specs.Prelude.{Contains}
+use Rattle.world.specs.Words.{AckDelivered, Acknowledgement, Apply, AsFollower, AsPrimary, At, Call, called, ClearGap, CloseGroup, Commit, Connection, connection_of, Copying, Crash, crashed, Cut, cut_at, Event, FailFence, Fails, Free, Happens, is_stopped, left, Mark, may_happen, may_remain, Node, nodes_run, PinCopy, position_of, Promote, released_in, Remains, Reopen, Send, sent_with, Sound, Step, told, Turn, with_link, World, Write, torn}
+use Rattle.world.proofs.Words.{and_parts, IsAt, remains-primary, rests-Fails}
 use Rattle.std.proofs.lemmas.Bool.{eq-eqb}
 use Rattle.std.proofs.lemmas.List.{append-nil}
-use Rattle.model.specs.declared.call.Call.{Call}
-use Rattle.model.specs.Call.{cut_at, position_of}
-use Rattle.machine.specs.declared.event.Event.{Event}
-use Rattle.machine.specs.declared.event.Event.TheVariants.{Enter, Feed, Offer, Turn, CloseGroup, Commit, Free, ClearGap, Apply, AckDelivered, PinCopy, Send, Hold, Read, Release, Write, Leave, FailFence, Crash, Reopen, Promote}
-use Rattle.machine.specs.declared.event.Cut.{Cut}
+use Rattle.machine.specs.declared.event.Event.TheVariants.{Enter, Feed, Offer, Hold, Read, Release, Leave}
 use Rattle.machine.specs.declared.event.Cut.TheVariants as cut
-use Rattle.machine.specs.declared.event.Mark.{Mark}
 use Rattle.machine.specs.declared.event.Mark.TheVariants.{Local, Remote}
-use Rattle.machine.specs.declared.event.Node.{Node}
 use Rattle.machine.specs.declared.event.Node.TheVariants as node
-use Rattle.machine.specs.Event.{Acknowledgement, Awaited, Copying, Follows, Remains, At, AsFollower, AsPrimary, Connection, Inbound, Outbound, Sending, Step, World, Fails, Happens, called, changed_at, connection_of, crashed, may_remain, fed_with, get_connection, having_read, having_released, held_first, is_stopped, left, offered_next, on_inbound, on_outbound, sent_with, taken_first, told, with_call, with_inbound, with_link, with_made, with_outbound, written}
-use Rattle.machine.specs.Promise.{released_in}
+use Rattle.machine.specs.Event.{Follows, Inbound, Outbound, changed_at, fed_with, get_connection, having_read, having_released, held_first, offered_next, on_inbound, on_outbound, taken_first, with_call, with_inbound, with_made, with_outbound, written}
 use Rattle.machine.proofs.ConnectionLemmas.{get-changed_other, get-entered}
 use Rattle.machine.proofs.CrashLemmas.{get-over}
-use Rattle.machine.proofs.StandingLemmas.{rests-Fails}
-use Rattle.machine.proofs.SureLemmas.{IsAt, remains-primary, unfailed}
-use Rattle.machine.specs.Sound.{Sound}
+use Rattle.world.specs.Remaining.{stops_between}
 use Rattle.world.specs.Step.{CallsBy, calls_left, released_by}
+use Rattle.world.proofs.StopLemmas.{applied-life, running-goes, running-whole}
 
--- ---- calls
-
-told-calls : (w : World) (ack : Option Acknowledgement) → (with_link (told w.primary.epoch w.primary.committer.position ack w.primary.link) w).primary.calls ≡ w.primary.calls
-told-calls w ack = refl
-
-of_calls : (w then new : World) → new ≡ then → then.primary.calls ≡ w.primary.calls → new.primary.calls ≡ w.primary.calls
-of_calls w then new e same = ap (λ (x : World). x.primary.calls) e ∙ same
-
--- nor does a fence that failed change it
-calls-failed : (w new : World) (node : Node) (call : Cut) → Fails w node call new → new.primary.calls ≡ w.primary.calls
-calls-failed w new node call fails = (rests-Fails w new node call fails).calls
-
-calls-or : {P : Type 0} (w new : World) (node : Node) (call : Cut) → (P → new.primary.calls ≡ w.primary.calls) → P ⊎ Fails w node call new → new.primary.calls ≡ w.primary.calls
-calls-or w new node call by happens = elim happens [ inl did ↦ by did | inr fails ↦ calls-failed w new node call fails ]
-
--- a crash of the primary cuts the list where its image stands
-calls-primary : (w new : World) (call : Cut) (remain : Remains) → IsAt remain → Contains (may_remain w node.Primary call) remain → new ≡ crashed node.Primary remain w
-    → (p : ℕ) × Contains (may_remain w node.Primary call) (At p) × (new.primary.calls ≡ cut_at w.primary.calls p)
-calls-primary w new call (At p) at one now = (p, one, ap (λ (x : World). x.primary.calls) now)
-calls-primary w new call AsPrimary at one now = absurd at
-calls-primary w new call (AsFollower p) at one now = absurd at
-
--- one of the standby leaves it, unless its image is that of a primary
-calls-standby : (w new : World) (remain : Remains) → new ≡ crashed node.Standby remain w → new.primary.calls ≡ calls_left w remain
-calls-standby w new (At p) now = of_calls w _ new now refl
-calls-standby w new (AsFollower p) now = of_calls w _ new now refl
-calls-standby w new AsPrimary now = ap (λ (x : World). x.primary.calls) now
-
--- nor does what the link sends change it
-sent-calls : (w : World) (copying : Copying) → (sent_with copying w).primary.calls ≡ w.primary.calls
-sent-calls w Follows = refl
-sent-calls w Awaited = refl
-sent-calls w (Sending pinned) = refl
-
--- in a promotion no fence failed
-abbrev pub IsWhole : Event → World → Type 0
-IsWhole event new = event ≡ Promote → is_stopped new.standby.life ≡ false
-
-calls-happen : (w : World) (event : Event) (new : World) → Sound w → IsWhole event new → Happens w event new → CallsBy w event true new.primary.calls
-calls-happen w (Turn c) new sound whole h = (h.call, h.connection, h.first, h.reply, ap (λ (x : World). x.primary.calls) h.now)
-calls-happen w (FailFence node.Primary k) new sound whole h = of_calls w _ new h refl
-calls-happen w (FailFence node.Standby k) new sound whole h = of_calls w _ new h refl
-calls-happen w (Crash node.Primary call k picks) new sound whole h = calls-primary w new call h.remain (remains-primary w call h.remain sound h.one) h.one h.now
-calls-happen w (Crash node.Standby call k picks) new sound whole h = (h.remain, h.one, calls-standby w new h.remain h.now)
-calls-happen w (Reopen node.Primary) new sound whole h = calls-or w new node.Primary cut.Reopen (λ opens. of_calls w _ new opens.now refl) h
-calls-happen w (Reopen node.Standby) new sound whole h = calls-or w new node.Standby cut.Reopen (λ did. of_calls w _ new did refl) h
-calls-happen w Promote new sound whole h = ap (λ (x : World). x.primary.calls) (unfailed w node.Standby cut.Promote new (whole refl) h).now
-calls-happen w Commit new sound whole h = calls-or w new node.Primary cut.Commit (λ did. of_calls w _ new did refl) h
-calls-happen w Free new sound whole h = calls-or w new node.Primary cut.Free (λ did. of_calls w _ new did refl) h
-calls-happen w ClearGap new sound whole h = calls-or w new node.Primary cut.ClearGap (λ did. of_calls w _ new did refl) h
-calls-happen w Apply new sound whole h = calls-or w new node.Standby cut.Apply (λ applies. of_calls w _ new applies.now refl) h
-calls-happen w Send new sound whole h = of_calls w _ new h (sent-calls w w.primary.link.copying)
-calls-happen w PinCopy new sound whole h = of_calls w _ new h.now refl
-calls-happen w CloseGroup new sound whole h =
-    elim h [
-      | inl group ↦ of_calls w _ new group.1.now refl
-      | inr list ↦ of_calls w _ new list.1 refl
-    ]
-calls-happen w (AckDelivered a) new sound whole h = of_calls w _ new h (told-calls w (slice_get w.wire.acknowledgements a))
-calls-happen w event new sound whole h = of_calls w _ new h refl
-
--- nothing is called where the event was not enabled
-calls-stay : (w : World) (event : Event) (calls : List Call) → calls ≡ w.primary.calls → CallsBy w event false calls
-calls-stay w (Turn c) calls same = same
-calls-stay w (Crash node.Primary call k picks) calls same = same
-calls-stay w (Crash node.Standby call k picks) calls same = same
-calls-stay w Promote calls same = same
-calls-stay w event calls same = same
-
-pub calls-step : (w : World) (event : Event) (did : Bool) (new : World) → Sound w → (did ≡ true → IsWhole event new) → Step w event did new → CallsBy w event did new.primary.calls
-calls-step w event true new sound whole step = calls-happen w event new sound (whole refl) (step.happens refl)
-calls-step w event false new sound whole step = calls-stay w event new.primary.calls (ap (λ (x : World). x.primary.calls) (step.stands refl))
-
--- ---- released bytes
+-- ---- what was released
 
 -- nothing is released to any connection
 abbrev Silent : World → World → Type 0
@@ -124,6 +45,135 @@ silent-called w c call d =
     let taken = on_inbound c taken_first (with_call call w) in
     silent-outbound taken c (with_made (record { reply = call.reply; position = position_of (w.primary.calls ++ call ∷ []) })) (λ outbound. refl) d ∙ silent-inbound (with_call call w) c taken_first d
 
+-- nor does a crash release anything
+silent-crashed : (w : World) (n : Node) (remain : Remains) → Silent w (crashed n remain w)
+silent-crashed w node.Primary (At p) c = ap (λ (x : Connection). x.outbound.released) (get-over w.primary.connections c)
+silent-crashed w node.Primary AsPrimary c = refl
+silent-crashed w node.Primary (AsFollower p) c = refl
+silent-crashed w node.Standby (At p) c = refl
+silent-crashed w node.Standby (AsFollower p) c = refl
+silent-crashed w node.Standby AsPrimary c = ap (λ (x : Connection). x.outbound.released) (get-over w.primary.connections c)
+
+-- ---- an event that gives nothing
+
+-- the standby stands where it did, or a call has left nothing of it
+abbrev pub Lies : World → World → Type 0
+Lies w new = (new.standby.position ≡ w.standby.position) ⊎ (torn new.standby.life ≡ [])
+
+-- nothing is called, none of the list is cut, and nothing is released
+record GivesNothing (w new : World) : Type 0 where
+  pub calls : new.primary.calls ≡ w.primary.calls
+  pub silent : Silent w new
+  pub lies : Lies w new
+
+nothing-as : {w then new : World} → new ≡ then → GivesNothing w then → GivesNothing w new
+nothing-as {w} now nothing = subst (GivesNothing w) (sym now) nothing
+
+nothing-or : {P : Type 0} (w new : World) (n : Node) (call : Cut) → (P → GivesNothing w new) → P ⊎ Fails w n call new → GivesNothing w new
+nothing-or w new n call by happens = elim happens [
+  | inl did ↦ by did
+  | inr fails ↦
+      let rests = rests-Fails w new n call fails in
+      record { calls = rests.calls; silent = λ c. ap (λ (connections : List Connection). (get_connection connections c).outbound.released) rests.connections; lies = inl rests.position }
+]
+
+nothing-sent : (w : World) (copying : Copying) → GivesNothing w (sent_with copying w)
+nothing-sent w Follows = record { calls = refl; silent = λ c. refl; lies = inl refl }
+nothing-sent w copying = record { calls = refl; silent = λ c. refl; lies = inl refl }
+
+nothing-told : (w : World) (ack : Option Acknowledgement) → GivesNothing w (with_link (told w.primary.epoch w.primary.committer.position ack w.primary.link) w)
+nothing-told w ack = record { calls = refl; silent = λ c. refl; lies = inl refl }
+
+-- such an event
+abbrev gives_nothing : Event → Bool
+gives_nothing (Turn c) = false
+gives_nothing (Write c n) = false
+gives_nothing (Crash n call k picks) = false
+gives_nothing Promote = false
+gives_nothing event = true
+
+nothing-happens : (w : World) (event : Event) (new : World) → gives_nothing event ≡ true → nodes_run w event ≡ true → Happens w event new → GivesNothing w new
+nothing-happens w (Turn c) new none runs h = absurd (true≢false (sym none))
+nothing-happens w (Write c n) new none runs h = absurd (true≢false (sym none))
+nothing-happens w (Crash n call k picks) new none runs h = absurd (true≢false (sym none))
+nothing-happens w Promote new none runs h = absurd (true≢false (sym none))
+nothing-happens w Enter new none runs h = nothing-as h (record { calls = refl; silent = get-entered (λ connection. connection.outbound.released) refl w.primary.connections; lies = inl refl })
+nothing-happens w (Feed c piece) new none runs h = nothing-as h (record { calls = refl; silent = silent-inbound w c (fed_with piece); lies = inl refl })
+nothing-happens w (Offer c) new none runs h = nothing-as h (record { calls = refl; silent = silent-inbound w c offered_next; lies = inl refl })
+nothing-happens w CloseGroup new none runs h = elim h [
+  | inl group ↦ nothing-as group.1.now (record { calls = refl; silent = λ c. refl; lies = inl refl })
+  | inr list ↦ nothing-as list.1 (record { calls = refl; silent = λ c. refl; lies = inl refl })
+]
+nothing-happens w Commit new none runs h = nothing-or w new node.Primary cut.Commit (λ did. nothing-as did (record { calls = refl; silent = λ c. refl; lies = inl refl })) h
+nothing-happens w Free new none runs h = nothing-or w new node.Primary cut.Free (λ did. nothing-as did (record { calls = refl; silent = λ c. refl; lies = inl refl })) h
+nothing-happens w ClearGap new none runs h = nothing-or w new node.Primary cut.ClearGap (λ did. nothing-as did (record { calls = refl; silent = λ c. refl; lies = inl refl })) h
+nothing-happens w Send new none runs h = nothing-as h (nothing-sent w w.primary.link.copying)
+nothing-happens w Apply new none runs h =
+    nothing-or w new node.Standby cut.Apply (λ applies. record {
+      calls = ap (λ (x : World). x.primary.calls) applies.now;
+      silent = λ c. ap (λ (x : World). released_in x c) applies.now;
+      lies = inr (ap torn (applied-life applies) ∙ running-whole w.standby.life runs);
+    }) h
+nothing-happens w (AckDelivered a) new none runs h = nothing-as h (nothing-told w (slice_get w.wire.acknowledgements a))
+nothing-happens w PinCopy new none runs h = nothing-as h.now (record { calls = refl; silent = λ c. refl; lies = inl refl })
+nothing-happens w (Hold c) new none runs h = nothing-as h (record { calls = refl; silent = silent-outbound w c held_first (λ outbound. refl); lies = inl refl })
+nothing-happens w (Read c mark) new none runs h = nothing-as h (record { calls = refl; silent = silent-outbound w c (having_read mark w) (silent-read w mark); lies = inl refl })
+nothing-happens w (Release c) new none runs h = nothing-as h (record { calls = refl; silent = silent-outbound w c having_released (λ outbound. refl); lies = inl refl })
+nothing-happens w (Leave c) new none runs h = nothing-as h (record { calls = refl; silent = silent-changed c left w.primary.connections (λ connection. refl); lies = inl refl })
+nothing-happens w (FailFence node.Primary k) new none runs h = nothing-as h (record { calls = refl; silent = λ c. refl; lies = inl refl })
+nothing-happens w (FailFence node.Standby k) new none runs h = nothing-as h (record { calls = refl; silent = λ c. refl; lies = inl refl })
+nothing-happens w (Reopen node.Primary) new none runs h = nothing-or w new node.Primary cut.Reopen (λ opens. nothing-as opens.now (record { calls = refl; silent = λ c. refl; lies = inl refl })) h
+nothing-happens w (Reopen node.Standby) new none runs h = nothing-or w new node.Standby cut.Reopen (λ did. nothing-as did (record { calls = refl; silent = λ c. refl; lies = inl refl })) h
+nothing-happens w event new none runs h = nothing-as h (record { calls = refl; silent = λ c. refl; lies = inl refl })
+
+-- its nodes run
+runs-then : (w : World) (event : Event) (new : World) → Step w event true new → nodes_run w event ≡ true
+runs-then w event new step = (and_parts (nodes_run w event) (may_happen w event) (sym step.done)).0
+
+-- ---- calls
+
+-- a crash of the primary cuts the list where its image stands
+calls-primary : (w new : World) (call : Cut) (remain : Remains) → IsAt remain → Contains (may_remain w node.Primary call) remain → new ≡ crashed node.Primary remain w
+    → (p : ℕ) × Contains (may_remain w node.Primary call) (At p) × (new.primary.calls ≡ cut_at w.primary.calls p)
+calls-primary w new call (At p) at one now = (p, one, ap (λ (x : World). x.primary.calls) now)
+calls-primary w new call AsPrimary at one now = absurd at
+calls-primary w new call (AsFollower p) at one now = absurd at
+
+-- one of the standby leaves it, unless its image is that of a primary
+calls-standby : (w new : World) (remain : Remains) → new ≡ crashed node.Standby remain w → new.primary.calls ≡ calls_left w remain
+calls-standby w new (At p) now = ap (λ (x : World). x.primary.calls) now
+calls-standby w new (AsFollower p) now = ap (λ (x : World). x.primary.calls) now
+calls-standby w new AsPrimary now = ap (λ (x : World). x.primary.calls) now
+
+-- what an event calls; but a promotion in which a fence fails calls nothing, and cuts nothing
+abbrev pub Calls : World → Event → Bool → World → Type 0
+Calls w event did new = CallsBy w event did new.primary.calls ⊎ ((stops_between w new node.Standby ≡ true) × (new.primary.calls ≡ w.primary.calls))
+
+calls-happen : (w : World) (event : Event) (new : World) → Sound w → nodes_run w event ≡ true → Happens w event new → Calls w event true new
+calls-happen w (Turn c) new sound runs h = inl (h.call, h.connection, h.first, h.reply, ap (λ (x : World). x.primary.calls) h.now)
+calls-happen w (Write c n) new sound runs h = inl (ap (λ (x : World). x.primary.calls) h)
+calls-happen w (Crash node.Primary call k picks) new sound runs h = inl (calls-primary w new call h.remain (remains-primary w call h.remain sound h.one) h.one h.now)
+calls-happen w (Crash node.Standby call k picks) new sound runs h = inl (h.remain, h.one, calls-standby w new h.remain h.now)
+calls-happen w Promote new sound runs h = elim h [
+  | inl opens ↦ inl (ap (λ (x : World). x.primary.calls) opens.now)
+  | inr fails ↦ inr (ap₂ (λ (a b : Bool). not a && b) (running-goes w.standby.life runs) (ap (λ (x : World). is_stopped x.standby.life) fails.now), (rests-Fails w new node.Standby cut.Promote fails).calls)
+]
+calls-happen w event new sound runs h = inl (nothing-happens w event new refl runs h).calls
+
+-- nothing is called where the event was not enabled
+calls-stay : (w : World) (event : Event) (calls : List Call) → calls ≡ w.primary.calls → CallsBy w event false calls
+calls-stay w (Turn c) calls same = same
+calls-stay w (Crash node.Primary call k picks) calls same = same
+calls-stay w (Crash node.Standby call k picks) calls same = same
+calls-stay w Promote calls same = same
+calls-stay w event calls same = same
+
+pub calls-step : (w : World) (event : Event) (did : Bool) (new : World) → Sound w → Step w event did new → Calls w event did new
+calls-step w event true new sound step = calls-happen w event new sound (runs-then w event new step) (step.happens refl)
+calls-step w event false new sound step = inl (calls-stay w event new.primary.calls (ap (λ (x : World). x.primary.calls) (step.stands refl)))
+
+-- ---- released bytes
+
 -- what a write releases: at its connection the first of what waits there, and nothing elsewhere
 written-same : (c n : ℕ) (connections : List Connection)
     → (get_connection (changed_at c (with_outbound (written n)) connections) c).outbound.released ≡ (get_connection connections c).outbound.released ++ take n (get_connection connections c).outbound.pending
@@ -142,74 +192,21 @@ written-at w c n d =
     ] refl
 
 -- an event that releases nothing
-quiet : (w then new : World) → new ≡ then → Silent w then → (c : ℕ) → released_in new c ≡ released_in w c ++ []
-quiet w then new e silent c = ap (λ (x : World). released_in x c) e ∙ silent c ∙ sym (append-nil (released_in w c))
+quiet : (w new : World) → Silent w new → (c : ℕ) → released_in new c ≡ released_in w c ++ []
+quiet w new silent c = silent c ∙ sym (append-nil (released_in w c))
 
-none : (w : World) → Silent w w
-none w c = refl
-
-told-silent : (w : World) (ack : Option Acknowledgement) → Silent w (with_link (told w.primary.epoch w.primary.committer.position ack w.primary.link) w)
-told-silent w ack c = refl
-
--- nor does a crash release anything
-silent-crashed : (w : World) (n : Node) (remain : Remains) → Silent w (crashed n remain w)
-silent-crashed w node.Primary (At p) c = ap (λ (x : Connection). x.outbound.released) (get-over w.primary.connections c)
-silent-crashed w node.Primary AsPrimary c = refl
-silent-crashed w node.Primary (AsFollower p) c = refl
-silent-crashed w node.Standby (At p) c = refl
-silent-crashed w node.Standby (AsFollower p) c = refl
-silent-crashed w node.Standby AsPrimary c = ap (λ (x : Connection). x.outbound.released) (get-over w.primary.connections c)
-
--- nor does what the link sends
-silent-sent : (w : World) (copying : Copying) → Silent w (sent_with copying w)
-silent-sent w Follows c = refl
-silent-sent w Awaited c = refl
-silent-sent w (Sending pinned) c = refl
-
--- nor does a fence that fails
-silent-failed : (w new : World) (n : Node) (call : Cut) → Fails w n call new → Silent w new
-silent-failed w new n call fails c = ap (λ (connections : List Connection). (get_connection connections c).outbound.released) (rests-Fails w new n call fails).connections
-
-quiet-or : {P : Type 0} (w new : World) (n : Node) (call : Cut) → (P → Silent w new) → P ⊎ Fails w n call new → (c : ℕ) → released_in new c ≡ released_in w c ++ []
-quiet-or w new n call by happens = elim happens [
-  | inl did ↦ quiet w new new refl (by did)
-  | inr fails ↦ quiet w new new refl (silent-failed w new n call fails)
-]
-
--- where it is another world only by its name
 silent-as : (w then new : World) → new ≡ then → Silent w then → Silent w new
 silent-as w then new now silent c = ap (λ (x : World). released_in x c) now ∙ silent c
 
-released-happens : (w : World) (event : Event) (new : World) → Happens w event new → (c : ℕ) → released_in new c ≡ released_in w c ++ released_by w event true c
-released-happens w Enter new h = quiet w _ new h (get-entered (λ connection. connection.outbound.released) refl w.primary.connections)
-released-happens w (Feed d piece) new h = quiet w _ new h (silent-inbound w d (fed_with piece))
-released-happens w (Offer d) new h = quiet w _ new h (silent-inbound w d offered_next)
-released-happens w (Turn d) new h = quiet w _ new h.now (silent-called w d h.call)
-released-happens w CloseGroup new h =
-    elim h [
-      | inl group ↦ quiet w _ new group.1.now (λ c. refl)
-      | inr list ↦ quiet w _ new list.1 (λ c. refl)
-    ]
-released-happens w Send new h = quiet w _ new h (silent-sent w w.primary.link.copying)
-released-happens w PinCopy new h = quiet w _ new h.now (λ c. refl)
-released-happens w Commit new h = quiet-or w new node.Primary cut.Commit (λ did. silent-as w _ new did (λ c. refl)) h
-released-happens w Free new h = quiet-or w new node.Primary cut.Free (λ did. silent-as w _ new did (λ c. refl)) h
-released-happens w ClearGap new h = quiet-or w new node.Primary cut.ClearGap (λ did. silent-as w _ new did (λ c. refl)) h
-released-happens w Apply new h = quiet-or w new node.Standby cut.Apply (λ applies. silent-as w _ new applies.now (λ c. refl)) h
-released-happens w (AckDelivered a) new h = quiet w _ new h (told-silent w (slice_get w.wire.acknowledgements a))
-released-happens w (Hold d) new h = quiet w _ new h (silent-outbound w d held_first (λ outbound. refl))
-released-happens w (Read d mark) new h = quiet w _ new h (silent-outbound w d (having_read mark w) (silent-read w mark))
-released-happens w (Release d) new h = quiet w _ new h (silent-outbound w d having_released (λ outbound. refl))
-released-happens w (Write d n) new h = λ c. ap (λ (x : World). released_in x c) h ∙ written-at w d n c
-released-happens w (Leave d) new h = quiet w _ new h (silent-changed d left w.primary.connections (λ connection. refl))
-released-happens w (FailFence node.Primary k) new h = quiet w _ new h (λ c. refl)
-released-happens w (FailFence node.Standby k) new h = quiet w _ new h (λ c. refl)
-released-happens w (Crash n call k picks) new h = quiet w _ new h.now (silent-crashed w n h.remain)
-released-happens w (Reopen node.Primary) new h = quiet-or w new node.Primary cut.Reopen (λ opens. silent-as w _ new opens.now (λ c. refl)) h
-released-happens w (Reopen node.Standby) new h = quiet-or w new node.Standby cut.Reopen (λ did. silent-as w _ new did (λ c. refl)) h
-released-happens w Promote new h =
-    quiet-or w new node.Standby cut.Promote (λ opens. silent-as w _ new opens.now (λ c. ap (λ (x : Connection). x.outbound.released) (get-over w.primary.connections c))) h
-released-happens w event new h = quiet w _ new h (λ c. refl)
+released-happens : (w : World) (event : Event) (new : World) → nodes_run w event ≡ true → Happens w event new → (c : ℕ) → released_in new c ≡ released_in w c ++ released_by w event true c
+released-happens w (Turn d) new runs h = quiet w new (silent-as w _ new h.now (silent-called w d h.call))
+released-happens w (Write d n) new runs h = λ c. ap (λ (x : World). released_in x c) h ∙ written-at w d n c
+released-happens w (Crash n call k picks) new runs h = quiet w new (silent-as w _ new h.now (silent-crashed w n h.remain))
+released-happens w Promote new runs h = elim h [
+  | inl opens ↦ quiet w new (silent-as w _ new opens.now (λ c. ap (λ (x : Connection). x.outbound.released) (get-over w.primary.connections c)))
+  | inr fails ↦ quiet w new (λ c. ap (λ (connections : List Connection). (get_connection connections c).outbound.released) (rests-Fails w new node.Standby cut.Promote fails).connections)
+]
+released-happens w event new runs h = quiet w new (nothing-happens w event new refl runs h).silent
 
 -- nothing is released where the event was not enabled
 released-stays : (w : World) (event : Event) (c : ℕ) → released_by w event false c ≡ []
@@ -217,6 +214,30 @@ released-stays w (Write d n) c = refl
 released-stays w event c = refl
 
 pub released-step : (w : World) (event : Event) (did : Bool) (new : World) → Step w event did new → (c : ℕ) → released_in new c ≡ released_in w c ++ released_by w event did c
-released-step w event true new step = released-happens w event new (step.happens refl)
+released-step w event true new step = released-happens w event new (runs-then w event new step) (step.happens refl)
 released-step w event false new step = λ c.
     ap (λ (x : World). released_in x c) (step.stands refl) ∙ sym (append-nil (released_in w c)) ∙ ap (λ xs. released_in w c ++ xs) (sym (released-stays w event c))
+
+-- ---- where the standby stands
+
+lies-crashed : (w : World) (n : Node) (remain : Remains) → Lies w (crashed n remain w)
+lies-crashed w node.Primary (At p) = inl refl
+lies-crashed w node.Primary AsPrimary = inl refl
+lies-crashed w node.Primary (AsFollower p) = inl refl
+lies-crashed w node.Standby (At p) = inr refl
+lies-crashed w node.Standby AsPrimary = inl refl
+lies-crashed w node.Standby (AsFollower p) = inr refl
+
+lies-happens : (w : World) (event : Event) (new : World) → nodes_run w event ≡ true → Happens w event new → Lies w new
+lies-happens w (Turn c) new runs h = inl (ap (λ (x : World). x.standby.position) h.now)
+lies-happens w (Write c n) new runs h = inl (ap (λ (x : World). x.standby.position) h)
+lies-happens w (Crash n call k picks) new runs h = subst (Lies w) (sym h.now) (lies-crashed w n h.remain)
+lies-happens w Promote new runs h = elim h [
+  | inl opens ↦ inl (ap (λ (x : World). x.standby.position) opens.now)
+  | inr fails ↦ inl (rests-Fails w new node.Standby cut.Promote fails).position
+]
+lies-happens w event new runs h = (nothing-happens w event new refl runs h).lies
+
+pub lies-step : (w : World) (event : Event) (did : Bool) (new : World) → Step w event did new → Lies w new
+lies-step w event true new step = lies-happens w event new (runs-then w event new step) (step.happens refl)
+lies-step w event false new step = inl (ap (λ (x : World). x.standby.position) (step.stands refl))

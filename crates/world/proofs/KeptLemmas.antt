@@ -1,25 +1,13 @@
 -- A device that was asked to keep a moment, went through a call, and crashed as of that moment, or of the call's end: what is left of it, and of its node.
 use Rattle.std.proofs.Common.{◌≡◌, ◌⊎◌, inl, inr, ℕ, ◌+◌, ◌<◌, ◌≤◌, Bool, false, List, [], ◌∷◌, ◌++◌, Some, length, refl, sym, ap, ap₂, subst, ◌∙◌, arith}
-use Rattle.pmem.specs.Device.{State, Word, moment, newest_at}
-use Rattle.pmem.specs.Crash.{HadImage, IsImage, IsSettled, MayLeave, image_of, picked, words_to_crash}
+use Rattle.world.specs.Words.{AreLawful, AsFollower, AsPrimary, At, Call, Contents, cut_at, Holder, Image, image_of, IsImage, IsMapOf, IsSettled, IsUndamaged, Keeps, keyspace_after, LeavesOnly, moment, newest_at, picked, Remains, State, StaysReadable, Word, words_to_crash}
+use Rattle.world.proofs.Words.{entries_same, lawful_undamaged, LeavesOnly-then, LeavesOnly-weaken}
+use Rattle.pmem.specs.Crash.{HadImage, MayLeave}
 use Rattle.pmem.specs.Crash as crash
-use Rattle.pmem.specs.Runs.{LeavesOnly}
-use Rattle.pmem.proofs.Leaving.{LeavesOnly-then, LeavesOnly-weaken}
-use Rattle.model.specs.declared.call.Call.{Call}
-use Rattle.model.specs.Call.{cut_at, keyspace_after}
-use Rattle.model.specs.Group.{Contents}
-use Rattle.model.specs.Image.{Image, IsMapOf}
-use Rattle.model.proofs.DirectoryLemmas.{entries_same}
-use Rattle.model.specs.Standing.{Holder}
-use Rattle.wbl_engine.specs.Contents.{Keeps}
-use Rattle.wbl_engine.specs.Lawful.{AreLawful}
-use Rattle.wbl_engine.specs.Reopening.{StaysReadable}
-use Rattle.wbl_engine.proofs.LawfulLemmas.{lawful_from, lawful_undamaged}
-use Rattle.wbl_engine.specs.Lawful.{IsUndamaged}
-use Rattle.machine.specs.Event.{AsFollower, AsPrimary, At, Remains}
+use Rattle.wbl_engine.proofs.LawfulLemmas.{lawful_from}
 use Rattle.world.specs.Committing.{AreContentsAt, EngineStands, IsDown, NearOnly, OpensAtEither, promoted_holder}
 use Rattle.world.specs.Following.{moved_by}
-use Rattle.world.specs.Cutting.{LeavesCut}
+use Rattle.world.specs.Effect.{LeavesCut, LeavesPicked}
 use Rattle.world.specs.Remaining.{KeepsAs, KeepsAt, KeepsOne, KeepsPromoted}
 use Rattle.world.proofs.OpenedLemmas.{StaysSo}
 use Rattle.world.proofs.RemainLemmas.{keeps-near, one-of}
@@ -45,6 +33,25 @@ pub record CrashedIn (k : ℕ) (picks : List ℕ) (old kept mid new : State) : T
   pub picked_are : new.starved ≡ false → (word : ℕ) → newest_at new word ≡ picked (words_to_crash mid mid.kept) picks word
   pub lines_are : new.lines ≡ mid.lines
   pub moments : LeavesOnly mid new (λ image. IsImage mid.words image ⊎ (image ≡ image_of new.words))
+
+-- of what was said of each, where the picks were handed on
+pub crashed-in : {k : ℕ} {picks : List ℕ} {old kept mid new : State} (named : List ℕ) → named ≡ picks → crash.Keeps old kept (moment old + k) → mid.kept ≡ kept.kept → IsSettled new.words
+    → ((t : ℕ) → mid.kept ≡ Some t → MayLeave mid t (image_of new.words)) → (new.starved ≡ false → (word : ℕ) → newest_at new word ≡ picked (words_to_crash mid mid.kept) named word)
+    → new.lines ≡ mid.lines → LeavesOnly mid new (λ image. IsImage mid.words image ⊎ (image ≡ image_of new.words)) → CrashedIn k picks old kept mid new
+crashed-in {mid = mid} named same keeps asked settled left picked_are lines moments = record {
+  keeps = keeps;
+  asked = asked;
+  settled = settled;
+  left = left;
+  picked_are = λ fed word. picked_are fed word ∙ ap (λ (picks : List ℕ). picked (words_to_crash mid mid.kept) picks word) same;
+  lines_are = lines;
+  moments = moments;
+}
+
+pub leaves-picked : {picks : List ℕ} {old new : State} (named : List ℕ) → named ≡ picks → IsSettled new.words → IsImage old.words (image_of new.words)
+    → (new.starved ≡ false → (word : ℕ) → newest_at new word ≡ picked old.words named word) → LeavesPicked picks old new
+leaves-picked {old = old} named same settled image picked_are =
+    record { settled = settled; image = image; picked_are = λ fed word. picked_are fed word ∙ ap (λ (picks : List ℕ). picked old.words picks word) same }
 
 -- a call since the moment was asked for is one since before
 pub LeavesOnly-kept : {t : ℕ} {old kept mid : State} {P : Image → Type 0} → crash.Keeps old kept t → LeavesOnly kept mid P → LeavesOnly old mid P
@@ -152,7 +159,7 @@ EngineStands-kept holder calls p contents is_faulted keeps stands = record {
   durable = λ image is. stands.durable image (subst (λ (words : ℕ → Word). IsImage words image) keeps.words is);
 }
 
-pub IsDown-kept : {t : ℕ} {old kept : State} (holder : Holder) (calls : List Call) (p : ℕ) → crash.Keeps old kept t → IsDown holder calls p old → IsDown holder calls p kept
+unfoldable pub IsDown-kept : {t : ℕ} {old kept : State} (holder : Holder) (calls : List Call) (p : ℕ) → crash.Keeps old kept t → IsDown holder calls p old → IsDown holder calls p kept
 IsDown-kept {t} {old} {kept} holder calls p keeps down = record {
   contents = down.contents;
   contents_at = down.contents_at;
@@ -163,7 +170,7 @@ IsDown-kept {t} {old} {kept} holder calls p keeps down = record {
 }
 
 -- an image that its opening may leave holds the contents under a record of the same place
-pub readable-keeps : (holder : Holder) (calls : List Call) (p : ℕ) (contents : Contents) (image image' : Image) → AreContentsAt holder calls p contents → AreLawful contents → Keeps contents image
+unfoldable pub readable-keeps : (holder : Holder) (calls : List Call) (p : ℕ) (contents : Contents) (image image' : Image) → AreContentsAt holder calls p contents → AreLawful contents → Keeps contents image
     → StaysReadable contents.lines contents.current image image' → KeepsAt holder calls p image'
 readable-keeps holder calls p contents image image' are lawful keeps stays =
     let after : Contents = record { current = stays.current; lines = contents.lines; versions = contents.versions; is_free = contents.is_free } in

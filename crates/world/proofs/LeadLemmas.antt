@@ -1,22 +1,17 @@
 -- How an image opens that a call may have left: at a position of the list or at a later one, or as that of a primary.
 use Rattle.std.proofs.Common.{◌≡◌, ◌⊎◌, ℕ, ◌≤◌, List, [], ◌∷◌, ◌++◌, refl, subst, sym, arith, le_refl, inl, inr}
 use Rattle.std.specs.Prelude.{All}
-use Rattle.std.proofs.lemmas.List.Elements.{All-append, All-cons, All-head, All-nil, All-tail, All-weaker}
-use Rattle.model.specs.declared.call.Call.{Call}
-use Rattle.model.specs.Call.{cut_at, keyspace_after, position_of}
-use Rattle.model.specs.Image.{Image, Holds}
-use Rattle.model.specs.Standing.{Holder}
+use Rattle.world.specs.Words.{AsFollower, AsPrimary, At, Call, Commits, committed_first, Crash, cut_at, Event, Frees, from_group, Holder, Holds, Image, IsChain, IsStandbyLeft, keyspace_after, left_by_first, life_of, Node, position_at, position_of, reach, Remains, Role, Sound, spans_of, torn, World}
+use Rattle.world.proofs.Words.{All-append, All-cons, All-head, All-nil, All-tail}
+use Rattle.std.proofs.lemmas.List.Elements.{All-weaker}
 use Rattle.machine.specs.declared.event.Cut.TheVariants as cut
-use Rattle.machine.specs.declared.event.Event.{Event}
-use Rattle.machine.specs.declared.event.Event.TheVariants.{Crash}
-use Rattle.machine.specs.declared.event.Node.{Node}
 use Rattle.machine.specs.declared.event.Node.TheVariants as node
-use Rattle.machine.specs.Event.{AsFollower, AsPrimary, At, Commits, Committer, Frees, Remains, Role, Work, World, committed_first, from_group, left_by_first, life_of, position_at, reach, spans_of, torn}
-use Rattle.machine.specs.Sound.{IsChain, IsPrimaryLeft, IsStandbyLeft, Sound}
+use Rattle.machine.specs.Event.{Committer, Work}
+use Rattle.machine.specs.Sound.{IsPrimaryLeft}
 use Rattle.machine.proofs.StandbyLemmas.{left-first}
 use Rattle.machine.proofs.WorkLemmas.{spans_of-from_group}
 use Rattle.world.specs.Committing.{OpensAt, promoted_holder}
-use Rattle.world.specs.Cutting.{OpensAsOne, OpensNear, cut_short}
+use Rattle.world.specs.Remaining.{OpensAsOne, OpensNear, cut_short}
 use Rattle.world.specs.Following.{moved_by}
 use Rattle.world.specs.Headline.{OpensFrom, OpensFromEither, next_at, opens_as, opens_during}
 use Rattle.world.proofs.CutLemmas.{keyspace_after-cut_at-cut}

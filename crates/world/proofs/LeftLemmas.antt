@@ -1,27 +1,18 @@
 -- The images that a call of the primary may leave where a crash cuts it, or a fence fails in it.
 use Rattle.std.proofs.Common.{◌≡◌, ◌≤◌, Bool, true, false, ◌&&◌, List, [], ◌∷◌, ◌++◌, refl, sym, ap, subst, ◌∙◌, arith, le_refl, append-nil, true≢false}
 use Rattle.std.specs.Prelude.{Contains}
-use Rattle.pmem.specs.Device.{State}
-use Rattle.pmem.specs.Runs.{LeavesOnly}
-use Rattle.pmem.proofs.Leaving.{none_leaves}
-use Rattle.model.specs.Call.{position_of}
-use Rattle.model.specs.Group.{Contents}
-use Rattle.model.specs.Image.{Image}
-use Rattle.model.specs.Standing.{Holder}
-use Rattle.wbl_engine.specs.Contents.{Keeps}
-use Rattle.wbl_engine.specs.Lawful.{AreLawful}
-use Rattle.machine.specs.declared.event.Cut.{Cut}
+use Rattle.world.specs.Words.{AreLawful, At, Contents, Cut, halted, Holder, Image, is_between, is_crashed, is_running, Keeps, LeavesOnly, left_by, Life, may_clear, may_commit, may_cut, may_free, position_of, Remains, Sound, State, torn, with_life, World}
+use Rattle.world.proofs.Words.{and_parts, none_leaves}
 use Rattle.machine.specs.declared.event.Cut.TheVariants as cut
 use Rattle.machine.specs.declared.event.Node.TheVariants as node
-use Rattle.machine.specs.Event.{At, Life, Remains, World, halted, is_between, is_crashed, is_running, left_by, may_clear, may_commit, may_cut, may_free, torn, with_life}
 use Rattle.machine.specs.Event as machine
-use Rattle.machine.specs.Sound.{Sound}
 use Rattle.world.specs.Committing.{AreContentsAt, next_primary}
 use Rattle.world.specs.Pair.{Pair, PartsRefine}
 use Rattle.world.specs.Recalling.{RecallsFor, past_of}
 use Rattle.world.specs.Remaining.{LeftBy}
 use Rattle.world.proofs.PairLemmas.{primary-within}
 use Rattle.world.proofs.RecallLemmas.{recalled-each}
+use Rattle.world.proofs.StopLemmas.{running-whole}
 
 -- contents where the primary stood before the call
 pub left-there : (holder : Holder) (w : World) (call : Cut) (contents : Contents) (image : Image) → Sound w → AreContentsAt holder w.primary.calls w.primary.committer.position contents → AreLawful contents
@@ -72,26 +63,21 @@ left-still first second pair w call new sound parts same =
 pub cut-whole : (w : World) (call : Cut) → is_between call ≡ false → may_cut w node.Primary call ≡ true → torn w.primary.life ≡ []
 cut-whole w call inside may = by call inside may
   where
-    runs : (life : Life) (b : Bool) → (is_running life && b) ≡ true → torn life ≡ []
-    runs machine.Running b on = refl
-    runs (machine.Stopped remains) b on = absurd (true≢false (sym on))
-    runs machine.Crashed b on = refl
-    runs (machine.Retired remains) b on = absurd (true≢false (sym on))
+    runs : (b : Bool) → (is_running w.primary.life && b) ≡ true → torn w.primary.life ≡ []
+    runs b on = running-whole w.primary.life (and_parts (is_running w.primary.life) b on).0
 
     falls : (life : Life) → is_crashed life ≡ true → torn life ≡ []
     falls machine.Running on = refl
-    falls (machine.Stopped remains) on = absurd (true≢false (sym on))
     falls machine.Crashed on = refl
-    falls (machine.Retired remains) on = absurd (true≢false (sym on))
+    falls life on = absurd (true≢false (sym on))
 
     by : (call : Cut) → is_between call ≡ false → may_cut w node.Primary call ≡ true → torn w.primary.life ≡ []
-    by cut.Commit inside may = runs w.primary.life (may_commit w) may
-    by cut.Free inside may = runs w.primary.life (may_free w) may
-    by cut.ClearGap inside may = runs w.primary.life (may_clear w) may
+    by cut.Commit inside may = runs (may_commit w) may
+    by cut.Free inside may = runs (may_free w) may
+    by cut.ClearGap inside may = runs (may_clear w) may
     by cut.Reopen inside may = falls w.primary.life may
     by cut.Between inside may = absurd (true≢false inside)
-    by cut.Apply inside may = absurd (true≢false (sym may))
-    by cut.Promote inside may = absurd (true≢false (sym may))
+    by call inside may = absurd (true≢false (sym may))
 
 -- It stopped in the call. What the call may leave of it, a crash between two events may leave then.
 pub left-halted : (holder : Holder) (w : World) (call : Cut) (image : Image) → torn w.primary.life ≡ [] → LeftBy holder w call image

@@ -1,28 +1,34 @@
--- The link, and what it sends, go on standing for the machine's.
-use Rattle.std.proofs.Common.{rules, ◌≡◌, inl, inr, ℕ, zero, suc, ◌+◌, ◌-◌, ◌<◌, List, ◌∷◌, ◌++◌, length, take, drop, Option, Some, None, Result, Ok, Err, IfOk, IfErr, refl, sym, ap, ap₂, subst, ◌∙◌, nat_lt, ◌&&◌, ◌||◌, Bool, true, false, length-append, add-one, arith, []}
+-- How the link refines the machine's, and what it learns from an acknowledgement.
+use Rattle.std.proofs.Common.{rules, ◌≡◌, inl, inr, ℕ, zero, suc, ◌+◌, ◌-◌, ◌<◌, List, ◌∷◌, ◌++◌, length, take, drop, Option, Some, None, Result, Ok, Err, IfOk, IfErr, refl, sym, ap, ap₂, subst, ◌∙◌, nat_lt, ◌&&◌, ◌||◌, Bool, true, false, length-append, add-one, arith, [], ◌≤◌, max, cond}
 use Rattle.std.proofs.Math.Bool.{and-false}
 use Rattle.std.proofs.Math.Nat.{eq-or-lt_of_le}
-use Rattle.std.proofs.lemmas.Bool.{cases_lt, lt-ltb, le-ltb}
+use Rattle.world.specs.Words.{acknowledged, AreGroupsOf, Call, changes_size, Copying, cut_at, Frame, Group, is_nonempty, IsChain, IsGroupOf, IsLegal, KEPT_GROUPS, keyspace_after, knowing, Memory, new_link, new_stream, next_to_send, option_items, play_all, Refusal, sent_next, Span, Stream, Waiting}
+use Rattle.world.proofs.Words.{cases_lt, keyspace_after-cut_at-since, le-ltb, lt-ltb, le-leb}
 use Rattle.std.proofs.lemmas.List.{drop_all}
 use Rattle.std.specs.Prelude.{slice_get}
-use Rattle.kv_types.specs.declared.refusal.Refusal.{Refusal}
-use Rattle.kv_types.specs.declared.refusal.Refusal.TheVariants.{Memory}
-use Rattle.kv_types.specs.Change.{changes_size}
-use Rattle.kv_types.specs.Keyspace.{play_all}
-use Rattle.model.specs.declared.group.Group.{Group}
-use Rattle.model.specs.declared.call.Call.{Call}
-use Rattle.model.specs.Call.{cut_at, is_nonempty, keyspace_after, IsLegal}
-use Rattle.model.proofs.PositionsLemmas.{keyspace_after-cut_at-since}
 use Rattle.model.proofs.SizeLemmas.{changes_of_group_within}
-use Rattle.machine.specs.declared.event.TheConstants.{KEPT_GROUPS}
-use Rattle.machine.specs.Event.{Link as Machine, Span, option_items, sent_group, sent_next, sent_waiting, next_to_send}
-use Rattle.pipes.specs.Waiting.{Waiting, LocalTakes}
-use Rattle.frames.specs.declared.frame.Frame.{Frame}
-use Rattle.standby_stream.specs.Stream.{Stream, TakesNext, IsFull, IsDue, Frames, IsFrameOf as IsFramed}
-use Rattle.node_steps.specs.GroupSpan.{IsGroupOf, AreGroupsOf}
+use Rattle.machine.specs.Event.{sent_group, sent_waiting, above, ended_at, Link as Machine}
+use Rattle.pipes.specs.Waiting.{LocalTakes}
+use Rattle.standby_stream.specs.Stream.{TakesNext, IsFull, IsDue, Frames, IsFrameOf as IsFramed, above as frames_above}
 use Rattle.world.specs.Link.{IsFrameOf, AreFramesOf, LinkRefines}
 use Rattle.node_steps.proofs.GroupSpanLemmas.{AreGroupsOf-grows}
 use Rattle.world.proofs.FrameLemmas.{AreFramesOf-grows, AreFramesOf-push, length-frames}
+use Rattle.std.proofs.lemmas.Bool.{lt-leb}
+
+-- a link that was made anew, before anything is handed on to it
+pub link-nothing : (calls : List Call) (code : Stream) (handed : Waiting Group) (remote epoch : ℕ) → handed.items ≡ [] → code ≡ new_stream epoch → remote ≡ 0 → LinkRefines calls code handed remote new_link
+link-nothing calls code handed remote epoch none is at = subst (λ (s : Stream). LinkRefines calls s handed remote new_link) (sym is) (record {
+  waiting = subst (λ (groups : List Group). AreGroupsOf calls groups []) (sym none) tt;
+  none_pending = refl;
+  delta = tt;
+  kept = tt;
+  next_within = omega arith;
+  again = refl;
+  known = refl;
+  remote_is = at;
+  copying_is = refl;
+  dropped_is = refl;
+})
 
 pub LinkRefines-grows : (calls more : List Call) (code : Stream) (handed : Waiting Group) (remote : ℕ) (machine : Machine) → LinkRefines calls code handed remote machine
     → LinkRefines (calls ++ more) code handed remote machine
@@ -256,3 +262,107 @@ module _ (calls : List Call) (code : Stream) (handed : Waiting Group) (remote : 
           → Sends code.epoch calls machine result new after remote
       due (Ok given) is next refused = let found = next is in sends-framed found.0 given new after is (takes found.0 after found.1) found.2
       due (Err refusal) is next refused = may_first refused.2.0 after is (takes (Some refused.2.0) after refused.2.1)
+
+-- nothing of a chain that begins at the position or above ends below it
+above-all : (position from : ℕ) (groups : List Span) (to : ℕ) → position ≤ from → IsChain from groups to → above position groups ≡ groups
+above-all position from [] to le chain = refl
+above-all position from (group ∷ groups) to le chain =
+    ap (λ b. cond b (group ∷ above position groups) (above position groups)) (lt-ltb position group.after (omega (arith, chain.1)))
+    ∙ ap (λ (gs : List Span). group ∷ gs) (above-all position group.after groups to (omega (arith, chain.1)) chain.2)
+
+-- a group that ends at the position or below is dropped
+above-low : (position : ℕ) (group : Span) (groups : List Span) → group.after ≤ position → above position (group ∷ groups) ≡ above position groups
+above-low position group groups le = ap (λ b. cond b (group ∷ above position groups) (above position groups)) (le-ltb position group.after le)
+
+-- of a chain, one that ends above it stays with all behind it
+above-high : (position from : ℕ) (group : Span) (groups : List Span) (to : ℕ) → position < group.after → IsChain from (group ∷ groups) to → above position (group ∷ groups) ≡ group ∷ groups
+above-high position from group groups to lt chain =
+    ap (λ b. cond b (group ∷ above position groups) (above position groups)) (lt-ltb position group.after lt)
+    ∙ ap (λ (gs : List Span). group ∷ gs) (above-all position group.after groups to (omega (arith, lt)) chain.2)
+
+above-drop : (position from n : ℕ) (groups : List Span) (to : ℕ) → position ≤ from → IsChain from groups to → above position (drop n groups) ≡ drop n groups
+above-drop position from zero groups to le chain = above-all position from groups to le chain
+above-drop position from (suc n) [] to le chain = refl
+above-drop position from (suc n) (group ∷ groups) to le chain = above-drop position group.after n groups to (omega (arith, chain.1)) chain.2
+
+length-above : (position : ℕ) (groups : List Span) → length (above position groups) ≤ length groups
+length-above position [] = omega arith
+length-above position (group ∷ groups) = elim (cases_lt position group.after) [
+  | inl lt ↦
+      let e = ap length (ap (λ b. cond b (group ∷ above position groups) (above position groups)) (lt-ltb position group.after lt)) in
+      omega (arith, e, length-above position groups)
+  | inr le ↦ omega (arith, ap length (above-low position group groups le), length-above position groups)
+]
+
+drop-none : (n : ℕ) → drop {A = Span} n [] ≡ []
+drop-none zero = refl
+drop-none (suc n) = refl
+
+-- what is to be sent again is dropped with what is kept
+drop-above : (position from n : ℕ) (groups : List Span) (to : ℕ) → IsChain from groups to
+    → drop (n - (length groups - length (above position groups))) (above position groups) ≡ above position (drop n groups)
+drop-above position from zero groups to chain = let e : 0 - (length groups - length (above position groups)) ≡ 0 = omega arith in ap (λ k. drop k (above position groups)) e
+drop-above position from (suc n) [] to chain = drop-none _
+drop-above position from (suc n) (group ∷ groups) to chain = elim (cases_lt position group.after) [
+  | inl lt ↦
+      let same = above-high position from group groups to lt chain in
+      let none : suc n - (suc (length groups) - suc (length groups)) ≡ suc n = omega arith in
+      subst (λ (gs : List Span). drop (suc n - (suc (length groups) - length gs)) gs ≡ above position (drop n groups)) (sym same)
+      (ap (λ k. drop k (group ∷ groups)) none ∙ sym (above-drop position group.after n groups to (omega (arith, lt)) chain.2))
+  | inr le ↦
+      let one : suc n - (suc (length groups) - length (above position groups)) ≡ n - (length groups - length (above position groups)) = omega (arith, length-above position groups) in
+      subst (λ (gs : List Span). drop (suc n - (suc (length groups) - length gs)) gs ≡ above position (drop n groups)) (sym (above-low position group groups le))
+      (ap (λ k. drop k (above position groups)) one ∙ drop-above position group.after n groups to chain.2)
+]
+
+-- the frames that are left are those of the groups that are left
+frames-above : (epoch : ℕ) (calls : List Call) (position from : ℕ) (frames : List Frame) (groups : List Span) (to : ℕ) → AreFramesOf epoch calls frames groups → IsChain from groups to
+    → AreFramesOf epoch calls (frames_above position frames) (above position groups)
+frames-above epoch calls position from [] [] to are chain = tt
+frames-above epoch calls position from (frame ∷ frames) (group ∷ groups) to are chain = elim (cases_lt position group.after) [
+  | inl lt ↦
+      let stays = ap (λ b. cond b (frames_above position frames) (frame ∷ frames)) (lt-leb frame.after position (omega (arith, lt, are.0.after))) in
+      subst (λ (gs : List Span). AreFramesOf epoch calls (frames_above position (frame ∷ frames)) gs) (sym (above-high position from group groups to lt chain))
+      (subst (λ (fs : List Frame). AreFramesOf epoch calls fs (group ∷ groups)) (sym stays) are)
+  | inr le ↦
+      let goes = ap (λ b. cond b (frames_above position frames) (frame ∷ frames)) (le-leb frame.after position (omega (arith, le, are.0.after))) in
+      subst (λ (gs : List Span). AreFramesOf epoch calls (frames_above position (frame ∷ frames)) gs) (sym (above-low position group groups le))
+      (subst (λ (fs : List Frame). AreFramesOf epoch calls fs (above position groups)) (sym goes) (frames-above epoch calls position group.after frames groups to are.1 chain.2))
+]
+frames-above epoch calls position from frames groups to are chain = absurd are
+
+-- the link without the groups up to the position, which it knows
+abbrev without : ℕ → Machine → Machine
+without position machine = record machine { kept = above position machine.kept; again = above position machine.again; known = max machine.known position }
+
+pub knows : (calls : List Call) (code : Stream) (handed : Waiting Group) (remote position : ℕ) (machine : Machine) (from to : ℕ) → LinkRefines calls code handed remote machine
+    → IsChain from machine.kept to
+    → LinkRefines calls (acknowledged position code) handed remote (knowing position machine)
+knows calls code handed remote position machine from to stands chain =
+    let kept = frames-above code.epoch calls position from code.kept machine.kept to stands.kept chain in
+    let count = length-frames code.epoch calls code.kept machine.kept stands.kept in
+    let left = length-frames code.epoch calls (frames_above position code.kept) (above position machine.kept) kept in
+    subst (λ (copying : Copying). LinkRefines calls (acknowledged position code) handed remote (ended_at position copying (without position machine))) (sym stands.copying_is) (record {
+      waiting = stands.waiting;
+      none_pending = stands.none_pending;
+      delta = stands.delta;
+      kept = kept;
+      next_within = omega (arith, stands.next_within, count, left, length-above position machine.kept);
+      again = ap₂ (λ n m. drop (code.next - (n - m)) (above position machine.kept)) count left ∙ drop-above position from code.next machine.kept to chain
+          ∙ ap (above position) stands.again;
+      known = ap (λ n. max n position) stands.known;
+      remote_is = stands.remote_is;
+      copying_is = stands.copying_is;
+      dropped_is = stands.dropped_is;
+    })
+
+-- one that tells nothing takes nothing
+pub knows-nothing : (calls : List Call) (code : Stream) (handed : Waiting Group) (remote : ℕ) (machine : Machine) (from to : ℕ) → LinkRefines calls code handed remote machine → IsChain from machine.kept to
+    → knowing 0 machine ≡ machine
+knows-nothing calls code handed remote machine from to stands chain =
+    let kept : above 0 machine.kept ≡ machine.kept = above-all 0 from machine.kept to (omega arith) chain in
+    let again : above 0 machine.again ≡ machine.again =
+    subst (λ (groups : List Span). above 0 groups ≡ groups) stands.again (above-drop 0 from code.next machine.kept to (omega arith) chain) in
+    let known : max machine.known 0 ≡ machine.known = omega arith in
+    ap (λ (copying : Copying). ended_at 0 copying (without 0 machine)) stands.copying_is
+    ∙ ap₂ (λ (k a : List Span). record machine { kept = k; again = a; known = max machine.known 0 }) kept again ∙ ap (λ n. record machine { known = n }) known

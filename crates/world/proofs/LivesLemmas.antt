@@ -1,10 +1,10 @@
 -- Which nodes run, before an event and after it.
 use Rattle.std.proofs.Common.{◌≡◌, Bool, true, false, ◌&&◌, ◌||◌, Option, slice_get, refl, sym, ap, subst, ◌∙◌, inl, inr, List, [], true≢false}
-use Rattle.model.specs.Standing.{Holder}
-use Rattle.machine.specs.declared.event.Event.{Event}
-use Rattle.machine.specs.declared.event.Event.TheVariants.{Turn, CloseGroup, Commit, Free, ClearGap, OpenLink, Send, Deliver, Apply, AckDelivered, Newcomer, PinCopy, FailFence, Crash, Reopen, Fence, Promote}
+use Rattle.world.specs.Words.{AckDelivered, Acknowledgement, Apply, are_running, Awaited, Changes, ClearGap, CloseGroup, Commit, Copying, Crash, End, Event, FailFence, Fence, Follower, Free, Happens, Holder, is_crashed, is_enabled, is_retired, is_running, is_stopped, Life, may_happen, Newcomer, nodes_run, Part, PinCopy, Promote, Remains, Reopen, Role, row, Send, Sending, sent_with, Span, Takes, TakesChanges, TakesOwn, Told, told, torn, Turn, with_link, World}
+use Rattle.machine.specs.declared.event.Runners.{Runners}
+use Rattle.machine.specs.declared.event.Runners.TheVariants as runners
 use Rattle.machine.specs.World as machine
-use Rattle.machine.specs.Event.{Acknowledgement, Awaited, Changes, Copying, Disk, End, Follower, Follows, Frame, Life, Part, Remains, Role, Sending, Span, Standby, Told, Uncopied, World, Happens, Takes, TakesChanges, TakesOwn, is_crashed, is_enabled, is_retired, is_running, is_stopped, may_happen, nodes_run, sent_with, told, torn, with_link}
+use Rattle.machine.specs.Event.{Disk, Follows, Frame, Standby, Uncopied}
 use Rattle.world.specs.Pair.{AreLives, Lives, NodesRefine, Pair, PairRefines, StillRefine}
 use Rattle.world.specs.Condition.{has_crashed, has_ended, has_stopped, is_still, life_as, runs}
 use Rattle.world.specs.declared.condition.Condition.{Condition}
@@ -27,27 +27,19 @@ is_plain Promote = false
 is_plain event = true
 
 -- it needs the primary and not the standby
+abbrev pub needs_primary : Runners → Bool
+needs_primary runners.Primary = true
+needs_primary nodes = false
+
 abbrev pub is_own : Event → Bool
-is_own OpenLink = false
-is_own (Deliver frame piece) = false
-is_own Apply = false
-is_own (FailFence node n) = false
-is_own (Crash node call k picks) = false
-is_own (Reopen node) = false
-is_own Fence = false
-is_own Promote = false
-is_own event = true
+is_own event = needs_primary (row event).runners
 
 own-nodes : (w : World) (event : Event) → is_own event ≡ true → w.primary.life ≡ machine.Running → nodes_run w event ≡ true
-own-nodes w OpenLink own r = absurd (true≢false (sym own))
-own-nodes w (Deliver frame piece) own r = absurd (true≢false (sym own))
-own-nodes w Apply own r = absurd (true≢false (sym own))
-own-nodes w (FailFence node n) own r = absurd (true≢false (sym own))
-own-nodes w (Crash node call k picks) own r = absurd (true≢false (sym own))
-own-nodes w (Reopen node) own r = absurd (true≢false (sym own))
-own-nodes w Fence own r = absurd (true≢false (sym own))
-own-nodes w Promote own r = absurd (true≢false (sym own))
-own-nodes w event own r = rw r refl
+own-nodes w event own up = by (row event).runners own
+  where
+    by : (nodes : Runners) → needs_primary nodes ≡ true → are_running nodes (is_running w.primary.life) (is_running w.standby.life) ≡ true
+    by runners.Primary own = ap is_running up
+    by nodes own = absurd (true≢false (sym own))
 
 -- ---- what an event leaves of them
 
@@ -161,18 +153,15 @@ lives-like {first} {second} {lives} same are = record {
 -- a call that failed has left nothing of a node that runs, nor of one that crashed
 torn_as : (condition : Condition) (remains : List Remains) → is_still condition ≡ false → torn (life_as condition remains) ≡ []
 torn_as Running remains whole = refl
-torn_as Stopped remains whole = absurd (true≢false whole)
 torn_as Crashed remains whole = refl
-torn_as Ended remains whole = absurd (true≢false whole)
+torn_as condition remains whole = absurd (true≢false whole)
 
 pub whole-torn : (condition : Condition) {life : Life} → life ≡ life_as condition (torn life) → is_still condition ≡ false → torn life ≡ []
 whole-torn condition {life} is whole = ap torn is ∙ torn_as condition (torn life) whole
 
 pub stopped-as : (condition : Condition) (remains : List Remains) → is_stopped (life_as condition remains) ≡ has_stopped condition
 stopped-as Running remains = refl
-stopped-as Stopped remains = refl
-stopped-as Crashed remains = refl
-stopped-as Ended remains = refl
+stopped-as condition remains = refl
 
 -- ---- an event whose nodes run
 
@@ -191,9 +180,7 @@ lives-step {first} {second} {lives} {w} {w'} {event} runs plain happens = lives-
 
 pub running-life : (condition : Condition) (remains : List Remains) → runs condition ≡ true → life_as condition remains ≡ machine.Running
 running-life Running remains up = refl
-running-life Stopped remains up = absurd (true≢false (sym up))
-running-life Crashed remains up = absurd (true≢false (sym up))
-running-life Ended remains up = absurd (true≢false (sym up))
+running-life condition remains up = absurd (true≢false (sym up))
 
 pub serving : {first second : Holder} {pair : Pair} {w : World} → PairRefines first second pair w → w.primary.life ≡ machine.Running
 serving {first} {second} {pair} {w} stands = stands.lives.primary ∙ running-life pair.lives.primary (torn w.primary.life) stands.serves
@@ -207,41 +194,29 @@ nodes-refine stands = record { sound = stands.sound; lives = stands.lives; parts
 
 pub running-as : (condition : Condition) (remains : List Remains) → is_running (life_as condition remains) ≡ runs condition
 running-as Running remains = refl
-running-as Stopped remains = refl
-running-as Crashed remains = refl
-running-as Ended remains = refl
+running-as condition remains = refl
 
 pub retired-as : (condition : Condition) (remains : List Remains) → is_retired (life_as condition remains) ≡ has_ended condition
 retired-as Running remains = refl
-retired-as Stopped remains = refl
-retired-as Crashed remains = refl
-retired-as Ended remains = refl
+retired-as condition remains = refl
 
 pub crashed-as : (condition : Condition) (remains : List Remains) → is_crashed (life_as condition remains) ≡ has_crashed condition
 crashed-as Running remains = refl
-crashed-as Stopped remains = refl
-crashed-as Crashed remains = refl
-crashed-as Ended remains = refl
+crashed-as condition remains = refl
 
 -- a node that runs is not over, and has not stopped
 pub runs-whole : (condition : Condition) → runs condition ≡ true → is_still condition ≡ false
 runs-whole Running up = refl
-runs-whole Stopped up = absurd (true≢false (sym up))
-runs-whole Crashed up = absurd (true≢false (sym up))
-runs-whole Ended up = absurd (true≢false (sym up))
+runs-whole condition up = absurd (true≢false (sym up))
 
 -- nor is one that is crashed
 pub crashed-whole : (condition : Condition) → has_crashed condition ≡ true → is_still condition ≡ false
-crashed-whole Running down = absurd (true≢false (sym down))
-crashed-whole Stopped down = absurd (true≢false (sym down))
 crashed-whole Crashed down = refl
-crashed-whole Ended down = absurd (true≢false (sym down))
+crashed-whole condition down = absurd (true≢false (sym down))
 
 still-over : (condition : Condition) → is_still condition ≡ false → has_ended condition ≡ false
-still-over Running whole = refl
-still-over Stopped whole = refl
-still-over Crashed whole = refl
 still-over Ended whole = absurd (true≢false whole)
+still-over condition whole = refl
 
 pub not-over : (condition : Condition) → runs condition ≡ true → has_ended condition ≡ false
 not-over condition up = still-over condition (runs-whole condition up)
@@ -251,26 +226,21 @@ crashed-not-over condition down = still-over condition (crashed-whole condition 
 
 -- one that has stopped was not promoted
 pub stopped-not-over : (condition : Condition) → has_stopped condition ≡ true → has_ended condition ≡ false
-stopped-not-over Running stopped = refl
-stopped-not-over Stopped stopped = refl
-stopped-not-over Crashed stopped = refl
 stopped-not-over Ended stopped = absurd (true≢false (sym stopped))
+stopped-not-over condition stopped = refl
 
 pub stopped-still : (condition : Condition) → has_stopped condition ≡ true → is_still condition ≡ true
 stopped-still condition stopped = ap (λ b. b || has_ended condition) stopped
 
 pub ended-still : (condition : Condition) → has_ended condition ≡ true → is_still condition ≡ true
-ended-still Running ended = absurd (true≢false (sym ended))
 ended-still Stopped ended = refl
-ended-still Crashed ended = absurd (true≢false (sym ended))
 ended-still Ended ended = refl
+ended-still condition ended = absurd (true≢false (sym ended))
 
 -- a primary that runs is not crashed
 pub not-crashed : (condition : Condition) → runs condition ≡ true → has_crashed condition ≡ true → ⊥
 not-crashed Running up down = true≢false (sym down)
-not-crashed Stopped up down = true≢false (sym up)
-not-crashed Crashed up down = true≢false (sym up)
-not-crashed Ended up down = true≢false (sym up)
+not-crashed condition up down = true≢false (sym up)
 
 -- it has not stopped, and was not fenced
 pub not-still : (condition : Condition) → runs condition ≡ true → is_still condition ≡ true → ⊥

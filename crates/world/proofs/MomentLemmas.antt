@@ -1,32 +1,17 @@
 -- The moments of a device over a run, of what each event did to it.
-use Rattle.std.proofs.Common.{◌≡◌, ◌⊎◌, ℕ, ◌≤◌, Bool, List, [], ◌∷◌, ◌++◌, Option, Some, None, append-nil, refl, sym, ap, subst, ◌∙◌, arith, le_refl, inl, inr}
-use Rattle.pmem.specs.Device.{State}
-use Rattle.pmem.specs.Runs.{LeavesOnly}
-use Rattle.pmem.proofs.Leaving.{LeavesOnly-then, LeavesOnly-weaken, none_leaves}
-use Rattle.model.specs.declared.call.Call.{Call}
+use Rattle.std.proofs.Common.{◌≡◌, ◌⊎◌, ℕ, ◌≤◌, Bool, List, [], ◌∷◌, ◌++◌, Option, Some, None, refl, sym, ap, subst, ◌∙◌, arith, le_refl, inl, inr}
+use Rattle.world.specs.Words.{Call, cut_at, Event, Holder, Image, IsReleased, last_world, LeavesOnly, life_of, Node, position_at, position_of, released_in, Run, Sound, State, Step, torn, World}
+use Rattle.world.proofs.Words.{chain-le, grows-step, LeavesOnly-then, LeavesOnly-weaken, none_leaves, position_of-cut_at, released-held, sound-step}
 use Rattle.model.specs.declared.record.Role.TheVariants as role
-use Rattle.model.specs.Call.{cut_at, position_of}
-use Rattle.model.specs.Image.{Image}
-use Rattle.model.specs.Standing.{Holder}
-use Rattle.model.proofs.CallsLemmas.{position_of-cut_at}
-use Rattle.machine.specs.declared.event.Event.{Event}
-use Rattle.machine.specs.declared.event.Node.{Node}
 use Rattle.machine.specs.declared.event.Node.TheVariants as node
-use Rattle.machine.specs.Event.{Remains, Run, Step, World, last_world, life_of, position_at, torn}
 use Rattle.machine.specs.Law.{Grows}
-use Rattle.machine.specs.Promise.{IsReleased, released_in}
-use Rattle.machine.specs.Sound.{Sound}
-use Rattle.machine.proofs.GroupLemmas.{chain-le}
-use Rattle.machine.proofs.GrowLemmas.{grows-step, keyspace-stays}
-use Rattle.machine.proofs.PromiseLemmas.{released-held}
-use Rattle.machine.proofs.SoundEvents.{sound-step}
+use Rattle.machine.proofs.GrowLemmas.{keyspace-stays}
 use Rattle.world.specs.Cause.{Stretch}
 use Rattle.world.specs.Committing.{OpensAt, promoted_holder}
-use Rattle.world.specs.Cutting.{cut_short}
 use Rattle.world.specs.Headline.{AreMoments, AreMoves, EndsAs, MovesBy, MovesOn, OfNode, OfSomeNode, Opening, OpensIn, OpensThere, Passes, holder_at, next_at, node_on, opens_as, opens_during}
-use Rattle.world.specs.Remaining.{OpensNear}
+use Rattle.world.specs.Remaining.{OpensNear, cut_short}
 use Rattle.world.proofs.LeadLemmas.{MayLead, OpensAt-cut, OpensAt-like, as-from, as-lead, as-lower, as-more, as-near, during-near, near-split, none-leads, onward, primary-between, torn-from}
-use Rattle.world.proofs.StopLemmas.{lies-step}
+use Rattle.world.proofs.GivenLemmas.{lies-step}
 
 -- ---- the position of a node
 
@@ -103,9 +88,9 @@ module _ (final : Node → Opening) (last : Node → Stretch) (is : IsFinal fina
       → EndsAs last lines (last_world w worlds) (node_on number (last_world w worlds)) reached new → new ≡ old
   none-still w [] [] [] old reached new off are ends = subst (λ (o : Option Node). EndsAs last lines w o reached new) off ends ∙ sym are
   none-still w (event ∷ events) (did ∷ done) (w' ∷ worlds) old reached new off are ends =
-      let passes : node_on number w' ≡ None = subst (λ (o : Option Node). Passes w w' o (node_on number w')) off are.1 in
-      let still : are.0 ≡ old = subst (λ (o : Option Node). MovesBy lines w event w' o (node_on number w') old are.0) off are.2 in
-      none-still w' events done worlds are.0 reached new passes are.4 ends ∙ still
+      let passes : node_on number w' ≡ None = subst (λ (o : Option Node). Passes w w' o (node_on number w')) off are.1.0 in
+      let still : are.0 ≡ old = subst (λ (o : Option Node). MovesBy lines w event w' o (node_on number w') old are.0) off are.1.1 in
+      none-still w' events done worlds are.0 reached new passes are.2 ends ∙ still
   none-still w events done worlds old reached new off are ends = absurd are
 
   -- the moments from a world on, and that no crash leaves an image below where the node stands in it
@@ -139,12 +124,12 @@ module _ (final : Node → Opening) (last : Node → Stretch) (is : IsFinal fina
 
   -- what an event leaves as that of this node after it
   abbrev After : World → World → Image → Node → Type 0
-  After w w' image n = OpensThere lines w' n w.primary.calls [] image
+  After w w' image n = OpensThere lines w' n w.primary.calls (torn (life_of w' n)) image
 
   -- it opens before the event, or where what it opens at after the event does so
   leaving-in : (w : World) (event : Event) (events : List Event) (w' : World) (worlds : List World) (n : Node) (image : Image) → Sound w → node_on number w ≡ Some n
       → (OfSomeNode (node_on number w') (After w w' image) → OpensIn final number lines (position_at w n) w (event ∷ events) (w' ∷ worlds) image)
-      → OpensThere lines w n w.primary.calls (cut_short w event n) image ⊎ OfSomeNode (node_on number w') (After w w' image) → OpensIn final number lines (position_at w n) w (event ∷ events) (w' ∷ worlds) image
+      → OpensThere lines w n w.primary.calls (torn (life_of w n) ++ cut_short w event n) image ⊎ OfSomeNode (node_on number w') (After w w' image) → OpensIn final number lines (position_at w n) w (event ∷ events) (w' ∷ worlds) image
   leaving-in w event events w' worlds n image sound on after (inl near) =
       In-now (position_at w n) w event events w' worlds n image on (during-near event n (holder_at lines w n) w.primary.calls w image sound near)
   leaving-in w event events w' worlds n image sound on after (inr there) = after there
@@ -152,9 +137,7 @@ module _ (final : Node → Opening) (last : Node → Stretch) (is : IsFinal fina
   -- of the image of a node
   after-near : (w w' : World) (n : Node) (image : Image) → node_on number w' ≡ Some n → OfSomeNode (node_on number w') (After w w' image)
       → OpensNear (holder_at lines w' n) w.primary.calls (position_at w' n) (torn (life_of w' n)) image
-  after-near w w' n image on' at =
-      subst (λ (remains : List Remains). OpensNear (holder_at lines w' n) w.primary.calls (position_at w' n) remains image) (append-nil (torn (life_of w' n)))
-      (subst (λ (o : Option Node). OfSomeNode o (After w w' image)) on' at)
+  after-near w w' n image on' at = subst (λ (o : Option Node). OfSomeNode o (After w w' image)) on' at
 
   -- it is the same node's after an event
   on-by-same : (w : World) (event : Event) (did : Bool) (w' : World) (events : List Event) (done : List Bool) (worlds : List World) (n : Node) (old next new : State) → Sound w → Sound w' → Grows w w' → Step w event did w'
@@ -251,8 +234,8 @@ module _ (final : Node → Opening) (last : Node → Stretch) (is : IsFinal fina
       record { from = from; moments = (keeps w [] [] old new sound from, all) }
   moments-from w (event ∷ events) (did ∷ done) (w' ∷ worlds) old reached new run sound are ends =
       let sound' = sound-step w event did w' run.0 sound in
-      let rest = moments-from w' events done worlds are.0 reached new run.1 sound' are.4 ends in
-      let from = on-event w event did w' events done worlds old are.0 new sound sound' (grows-step w event did w' run.0 sound) run.0 run.1 (node_on number w) refl are.1 are.2 rest.from
-      (λ off. none-still w' events done worlds are.0 reached new off are.4 ends) in
-      record { from = from; moments = (are.0, keeps w (event ∷ events) (w' ∷ worlds) old new sound from, are.2, are.3, rest.moments) }
+      let rest = moments-from w' events done worlds are.0 reached new run.1 sound' are.2 ends in
+      let from = on-event w event did w' events done worlds old are.0 new sound sound' (grows-step w event did w' run.0 sound) run.0 run.1 (node_on number w) refl are.1.0 are.1.1 rest.from
+      (λ off. none-still w' events done worlds are.0 reached new off are.2 ends) in
+      record { from = from; moments = (are.0, keeps w (event ∷ events) (w' ∷ worlds) old new sound from, are.1.1, are.1.2, rest.moments) }
   moments-from w events done worlds old reached new run sound are ends = absurd run

@@ -1,26 +1,10 @@
 -- The image of a node that is opened again, and what that leaves of it.
 use Rattle.std.proofs.Common.{◌≡◌, ◌≢◌, ◌⊎◌, inl, ℕ, ◌<◌, Bool, false, List, length, sym, ap, subst, ◌≤◌}
-use Rattle.kv_types.specs.declared.refusal.Refusal.{Refusal}
-use Rattle.kv_types.specs.declared.refusal.Refusal.TheVariants.{Fault, Memory}
-use Rattle.pmem.specs.Device.{State}
-use Rattle.pmem.specs.Crash.{IsImage, image_of}
-use Rattle.pmem.specs.Runs.{LeavesOnly}
-use Rattle.pmem.proofs.Leaving.{LeavesOnly-weaken}
-use Rattle.model.specs.declared.call.Call.{Call}
-use Rattle.model.specs.declared.record.Record.{Record}
+use Rattle.world.specs.Words.{Call, Contents, cut_at, entries_of, ExhaustsReopening, Fault, HasRecord, Holder, image_of, IsDurable, IsImage, IsReopened, IsUndamaged, keyspace_after, layout_in, LeavesOnly, Memory, Record, records, Refusal, RefusesReopening, State, StaysReadable, Table}
+use Rattle.world.proofs.Words.{IsKeyspace-keyspace_after, LeavesOnly-weaken, map-from_table}
 use Rattle.model.specs.declared.record.Role.{Role}
-use Rattle.model.specs.Call.{cut_at, keyspace_after}
-use Rattle.model.specs.Group.{Contents, entries_of}
-use Rattle.model.specs.Image.{HasRecord}
-use Rattle.model.specs.Standing.{Holder}
-use Rattle.model.proofs.CallsLemmas.{IsKeyspace-keyspace_after}
 use Rattle.model.proofs.MapLemmas.{IsMapOf-unique}
-use Rattle.mv_keyspace.specs.Table.{IsTable, Table, records}
-use Rattle.mv_keyspace.proofs.PartTables.{map-from_table}
-use Rattle.wbl_engine.specs.Restarting.{IsReopened}
-use Rattle.wbl_engine.specs.Contents.{IsDurable}
-use Rattle.wbl_engine.specs.Lawful.{IsUndamaged}
-use Rattle.wbl_engine.specs.Reopening.{ExhaustsReopening, RefusesReopening, StaysReadable, layout_in}
+use Rattle.mv_keyspace.specs.Table.{IsTable}
 use Rattle.world.specs.Cause.{Breaks, RestsBeforeReopening}
 use Rattle.world.specs.Committing.{AreContentsAt, EngineStands, IsDown, Moves, Rests, OpensAtEither}
 use Rattle.world.proofs.DownLemmas.{down-floor, down-gaps, down-reopened, restart-moments, settled-image}

@@ -1,53 +1,27 @@
 -- What clearing a gap does to the pair, of what it does to its parts.
 use Rattle.std.proofs.Common.{rules, ◌≡◌, ◌+◌, ◌-◌, ◌<◌, ℕ, inl, inr, Bool, true, false, nat_lt, List, ◌∷◌, ◌++◌, length, Result, Ok, Err, refl, sym, ap, subst, ◌∙◌, arith, length-append, []}
-use Rattle.std.proofs.lemmas.List.{length-drop}
-use Rattle.std.proofs.lemmas.Bool.{cases_lt}
-use Rattle.kv_types.specs.declared.refusal.Refusal.{Refusal}
-use Rattle.kv_types.specs.declared.refusal.Refusal.TheVariants.{Memory, Exhausted}
-use Rattle.pmem.specs.Device.{State}
-use Rattle.pmem.specs.Crash.{IsImage}
-use Rattle.pmem.specs.Runs.{LeavesOnly}
-use Rattle.pmem.proofs.Leaving.{LeavesOnly-weaken, none_leaves}
-use Rattle.model.specs.declared.group.Group.{Group}
-use Rattle.model.specs.declared.image.TheConstants.{COUNTER_LIMIT}
-use Rattle.model.specs.declared.record.Record.{Record}
-use Rattle.model.specs.declared.work.Work.{Work}
-use Rattle.model.specs.Group.{Contents}
-use Rattle.model.specs.Image.{Image}
-use Rattle.model.proofs.RecordLemmas.{HasRecord-lines}
-use Rattle.model.specs.Standing.{Holder}
-use Rattle.wbl_engine.specs.declared.freeing.Freed.{Freed}
-use Rattle.wbl_engine.specs.Freeing.{cleared_contents}
-use Rattle.pipes.specs.Waiting.{Waiting}
-use Rattle.group_commit.specs.Due.{due_now}
+use Rattle.world.specs.Words.{AreWorkOf, cleared_contents, Committer, Contents, COUNTER_LIMIT, Done, due_now, Freed, Group, Holder, LeavesOnly, may_happen, Memory, notices_of, positions_of_lists, Record, Refusal, Stage, State, Waiting, Work, World}
+use Rattle.world.proofs.Words.{cases_lt, LeavesOnly-weaken, length-drop, none_leaves}
 use Rattle.group_commit.specs.Working.{ClearsGap}
-use Rattle.group_commit.specs.declared.committer.Committer.{Committer}
 use Rattle.group_commit.specs.declared.due.Due.TheVariants as due
-use Rattle.group_commit.specs.declared.stage.Done.{Done}
-use Rattle.group_commit.specs.declared.stage.Stage.{Stage}
 use Rattle.group_commit.proofs.DueLemmas.{ClearIsDue, clear-now}
 use Rattle.machine.specs.declared.event.Cut.TheVariants as cut
 use Rattle.machine.specs.declared.event.Event.TheVariants as events
-use Rattle.machine.specs.Event.{World, may_happen}
 use Rattle.machine.specs.Event as machine
-use Rattle.world.specs.Cause.{EndsBy, IsAtLimit, RestsAtLimit}
-use Rattle.world.specs.Committing.{CommittingRefines, Leads, OpensAt, StageRefines, link_has_room, next_primary}
-use Rattle.node_steps.specs.GroupSpan.{AreWorkOf, positions_of_lists}
-use Rattle.world.specs.Pair.{Does, FreeingRefines, IsCut, Pair, PairRefines, PartsRefine}
+use Rattle.world.specs.Committing.{CommittingRefines, Leads, OpensAt, StageRefines, link_has_room}
+use Rattle.world.specs.Pair.{Does, FreeingRefines, Pair, PairRefines, PartsRefine}
 use Rattle.world.specs.Effect.{ClearsOldest}
 use Rattle.world.proofs.RecallLemmas.{recalled-cleared, recalled-each, remembered-same}
 use Rattle.world.specs.Recalling.{RemembersFor, past_of}
-use Rattle.primary.specs.Standing.{notices_of}
 use Rattle.world.proofs.EngineLemmas.{Opens-engine}
 use Rattle.primary.proofs.FreedQueue.{Leads-cleared}
-use Rattle.world.proofs.LivesLemmas.{enabled-is, nodes-refine, own-runs}
-use Rattle.world.proofs.PairLemmas.{Led, cut-for, none-added, rests-running, rests-standby, stays-does, tells}
+use Rattle.world.proofs.PairLemmas.{stays-does, steps-only}
 use Rattle.world.proofs.QueueLemmas.{clear-disabled, clear-enabled}
 use Rattle.world.proofs.PairTurns.{Took, Waiting-same, pair_of, pair_with}
 use Rattle.world.proofs.FreeingLemmas.{cleared-moments, contents-cleared, engine-cleared, lawful-cleared, primary-steps, stays-near}
 use Rattle.world.specs.Remaining.{LeftBy}
 use Rattle.world.proofs.LeftLemmas.{left-running, left-still, left-there}
-use Rattle.world.proofs.PairFreeing.{fault-does, refused-does}
+use Rattle.world.proofs.PairFreeing.{fault-does, limit-does, refused-does}
 
 module _ {E : Type 0} (device : E → State) (contents : E → Contents) (is_faulted : E → Bool) (pair : Pair) where
   -- the pair with this committer, with this work waiting for it, with these notices and with these groups at the link
@@ -142,41 +116,23 @@ module _ {E : Type 0} (device : E → State) (contents : E → Contents) (is_fau
           )
 
       cleared-does : (ok : Done) (one : ClearsOne after waiting' (Ok ok)) → Does from events.ClearGap (Ok true) (cleared_with after waiting' (pair.primary.notices ++ one.clears.answer.0 ∷ []) handed)
-      cleared-does ok one = record {
-        steps = λ first second w stands.
-            primary-steps events.ClearGap first second w (machine.cleared w) from (cleared_with after waiting' (pair.primary.notices ++ one.clears.answer.0 ∷ []) handed) refl
-            (record { allowed = refl; primary_disk = refl; standby_disk = refl; primary = refl; standby = refl; role = refl; epoch = refl })
-            stands refl refl one.clears.sound.1 (inl refl)
-            (sym (clear_may first second w stands))
-            (stays-near first w.primary.calls w.primary.committer.position w.primary.committer.position (device before.engine) (device after.engine) (cleared-then (Ok ok) one first second w stands.parts))
-            (clear-parts ok one first second w stands);
-        cut = tt;
-        calls = none-added _ _ refl;
-      }
+      cleared-does ok one = steps-only (λ first second w stands.
+          primary-steps events.ClearGap first second w (machine.cleared w) from (cleared_with after waiting' (pair.primary.notices ++ one.clears.answer.0 ∷ []) handed) refl
+          (record { allowed = refl; primary_disk = refl; standby_disk = refl; primary = refl; standby = refl; role = refl; epoch = refl })
+          stands refl refl one.clears.sound.1 (inl refl)
+          (sym (clear_may first second w stands))
+          (stays-near first w.primary.calls w.primary.committer.position w.primary.committer.position (device before.engine) (device after.engine) (cleared-then (Ok ok) one first second w stands.parts))
+          (clear-parts ok one first second w stands)) refl
 
       cut-clear : (refusal : Refusal) → ClearsOne after waiting' (Err refusal) → Does from events.ClearGap (Err refusal) (cleared_of after waiting' handed)
       cut-clear refusal one = elim one.clears.causes [
         | inl fault ↦ fault-does device contents is_faulted pair events.ClearGap refl before after waiting waiting' handed refusal fault (λ first second w old' new leads. leads) (one.clears.fault (ap Err fault)) clear_may
             (cleared-then (Err refusal) one)
-        | inr (inl limit) ↦ record { steps = tt; cut = λ first second w stands. ends first second w stands limit; calls = none-added _ _ refl }
+        | inr (inl limit) ↦
+            let told = one.clears.exhausted (ap Err limit) in
+            limit-does device contents is_faulted pair events.ClearGap refl before after waiting waiting' handed refusal limit (λ first second w old' new leads. leads) (inl told.0) told.1 clear_may
         | inr (inr memory) ↦ refused-does device contents is_faulted pair events.ClearGap refl refl before after waiting waiting' pair.primary.notices handed handed refusal memory (one.clears.memory (ap Err memory)) clear_may
       ]
-        where
-          new : Pair
-          new = cleared_of after waiting' handed
-
-          ends : (first second : Holder) (w : World) → PairRefines first second from w → refusal ≡ Exhausted → IsCut first second events.ClearGap refusal from new w
-          ends first second w stands limit =
-              let told = one.clears.exhausted (ap Err limit) in
-              let same : new.primary.device ≡ from.primary.device = ap device told.1 in
-              let at : (image : Image) → IsImage from.primary.device.words image → IsAtLimit first.lines (next_primary w - w.primary.committer.position) (next_primary w - w.primary.committer.position) image =
-              λ image is. record { current = from.primary.contents.current; has_record = HasRecord-lines stands.parts.engine.contents_at.lines_are (stands.parts.engine.durable image is).has_record; reached = inr (inr told.0) } in
-              cut-for first second events.ClearGap refusal from new w (nodes-refine stands) (tells pair.clients.transcript) refl (enabled-is (own-runs stands events.ClearGap refl) ∙ clear_may first second w stands)
-              (subst (λ (r : Refusal). EndsBy r events.ClearGap (Led first second from new w)) (sym limit) (
-                inl (subst (λ (d : State). RestsAtLimit first w.primary.calls w.primary.committer.position (next_primary w) from.primary.device d) (sym same)
-                    (record { rests = rests-running first second from w stands.parts; limit = at })),
-                rests-standby first second from w (nodes-refine stands),
-              ))
 
       -- it did so, and tells of that
       pub clear-done : (handed' : Waiting Group) (answer : Done) → Took device contents is_faulted due.Clear (link_has_room handed.items) pair.wire.remote before waiting handed (Ok answer) after waiting' handed'

@@ -1,29 +1,25 @@
--- What closing a group or a free list does to the pair, of what it does to its sequencer and its queue.
-use Rattle.std.proofs.Common.{rules, ◌≡◌, inl, inr, ◌+◌, Bool, true, false, List, length, Result, Ok, Err, IfOk, IfErr, OnErr, refl, sym, ap, ap₂, subst, ◌∙◌, length-append, true≢false}
-use Rattle.kv_types.specs.declared.refusal.Refusal.{Refusal}
-use Rattle.kv_types.specs.declared.refusal.Refusal.TheVariants.{Memory}
-use Rattle.pipes.specs.Waiting.{Waiting}
-use Rattle.model.specs.declared.work.Work.{Work}
+-- What closing a group, and taking a notice of what was freed, do to the pair.
+use Rattle.std.proofs.Common.{rules, ◌≡◌, inl, inr, ◌+◌, Bool, true, false, List, length, Result, Ok, Err, IfOk, IfErr, OnErr, refl, sym, ap, ap₂, subst, ◌∙◌, length-append, true≢false, ◌∷◌, ◌++◌, arith, le_refl, []}
+use Rattle.world.specs.Words.{AreWorkOf, ClosesOne, Commits, Frees, Holder, IsChain, MachineWork, may_happen, Memory, position_of, Refusal, seats_of, Sequencing, spans_of, Waiting, Work, World, Contents, EntryNo, Expects, Freed, IsAheadOf, SeatsFollow, SequencerRefines, TakesBack}
 use Rattle.model.specs.declared.work.Work.TheVariants as work
-use Rattle.model.specs.Call.{position_of}
-use Rattle.model.specs.Standing.{Holder}
-use Rattle.redis_core.specs.Sequencing.{Sequencing, ended_by_parts}
+use Rattle.redis_core.specs.Sequencing.{ended_by_parts}
 use Rattle.machine.specs.declared.event.Event.TheVariants as events
-use Rattle.machine.specs.Event.{Commits, Frees, Work as MachineWork, World, Closes, closed_group, closed_list, listed, may_happen, spans_of}
-use Rattle.machine.specs.Sound.{IsChain}
-use Rattle.primary.specs.Closing.{ClosesGroup, ClosesList, ClosesOne, MayClose}
-use Rattle.world.specs.Committing.{CommittingRefines}
-use Rattle.node_steps.specs.GroupSpan.{AreWorkOf}
+use Rattle.machine.specs.Event.{Closes, closed_group, closed_list, listed}
+use Rattle.primary.specs.Closing.{ClosesGroup, ClosesList, MayClose}
+use Rattle.world.specs.Committing.{CommittingRefines, Leads}
 use Rattle.world.specs.Recalling.{past_of}
-use Rattle.connections.specs.Session.{seats_of}
 use Rattle.world.specs.Pair.{FreeingRefines, Pair, PartsRefine, PairRefines, Steps, Does}
 use Rattle.world.proofs.LivesLemmas.{nodes-refine, own-runs}
 use Rattle.primary.proofs.LeadsLemmas.{Leads-group, Leads-list}
 use Rattle.node_steps.proofs.ClosingLemmas.{AreWorkOf-push, IsGroupOf-handed, closes-group, closes-list, follow-handed, follow-listed, grouped, may-close, may-not-close, sequencer-handed, sequencer-listed}
 use Rattle.primary.proofs.KeptLemmas.{remembers-group, remembers-list}
 use Rattle.node_steps.proofs.RecallLemmas.{waits-along}
-use Rattle.world.proofs.RecallLemmas.{remembered-from}
-use Rattle.world.proofs.PairLemmas.{cut-same, goes-steps, none-added, stays-does, tells}
+use Rattle.world.proofs.RecallLemmas.{remembered-from, remembered-on}
+use Rattle.world.proofs.PairLemmas.{cut-same, goes-steps, none-added, stays-does, tells, cut-only, steps-only}
+use Rattle.world.proofs.Words.{le-ltb, lt-ltb}
+use Rattle.kv_types.specs.declared.place.Extent.{Extent}
+use Rattle.machine.specs.Event as machine
+use Rattle.primary.proofs.FreedQueue.{Leads-accepted}
 
 -- what waits for the committer, and the sequencer
 abbrev pub with_work : Waiting Work → Sequencing → Pair → Pair
@@ -139,13 +135,9 @@ pub close-does : (old : Pair) (waiting : Waiting Work) (sequencer : Sequencing) 
     → IfErr result (λ refusal. refusal ≡ Memory) → OnErr result (MayClose old.primary.sequencer old.primary.committing.waiting × (sequencer ≡ old.primary.sequencer) × (waiting.items ≡ old.primary.committing.waiting.items))
     → Does old events.CloseGroup result (with_work waiting sequencer old)
 close-does old waiting sequencer (Err refusal) closed none memory refused =
-    record {
-      steps = tt;
-      cut = λ first second w stands.
-          cut-same first second events.CloseGroup refusal old (with_work waiting sequencer old) w refl memory refl refl (tells old.clients.transcript) refl (own-runs stands events.CloseGroup refl)
-          (close-happens first second old w stands refused.0) (nodes-refine stands);
-      calls = none-added _ _ refl;
-    }
+    cut-only (λ first second w stands.
+    cut-same first second events.CloseGroup refusal old (with_work waiting sequencer old) w refl memory refl refl (tells old.clients.transcript) refl (own-runs stands events.CloseGroup refl)
+    (close-happens first second old w stands refused.0) (nodes-refine stands)) refl
 close-does old waiting sequencer (Ok true) closed none memory refused =
     let did = closed refl in
     record { steps = λ first second w stands. close-steps first second old waiting sequencer w stands did.0 did.1; cut = tt; calls = none-added _ _ refl }
@@ -155,3 +147,51 @@ close-does old waiting sequencer (Ok false) closed none memory refused =
     subst (Does old events.CloseGroup (Ok false)) (sym same)
     (stays-does old events.CloseGroup refl (λ first second w stands.
     let parts = stands.parts in sym (may-not-close w old.primary.committing.waiting old.primary.sequencer parts.committing.work parts.sequencer parts.freeing.ended stayed.0)))
+
+-- ---- the sequencer is told
+
+abbrev pub with_accepted : Sequencing → List Freed → Pair → Pair
+with_accepted sequencer notices pair = record pair { primary = record pair.primary { sequencer = sequencer; notices = notices } }
+
+pub accept-does : (old : Pair) (sequencer : Sequencing) (notice : Freed) (rest : List Freed) → old.primary.notices ≡ notice ∷ rest
+    → TakesBack old.primary.sequencer notice.entries.items notice.extents.items sequencer
+    → ((c : Contents) (e : List EntryNo) (x : List Extent) → IsAheadOf old.primary.sequencer c → Expects old.primary.sequencer c (notice.entries.items ++ e) (notice.extents.items ++ x) → IsAheadOf sequencer c × Expects sequencer c e x)
+    → Does old events.AcceptFreed (Ok true) (with_accepted sequencer rest old)
+accept-does old sequencer notice rest told takes expected = steps-only steps refl
+  where
+    parts-then : (first second : Holder) (w : World) → PartsRefine first second old w → PartsRefine first second (with_accepted sequencer rest old) (machine.accepted w)
+    parts-then first second w parts =
+        let calls = w.primary.calls in
+        let many = ap length (sym told) ∙ parts.freeing.notices_are in
+        let newest = ap (λ (s : Sequencing). s.newest) takes.after in
+        let ended = ap (λ (s : Sequencing). s.ended) takes.after in
+        let freeing : FreeingRefines sequencer rest old.primary.contents (machine.accepted w).primary =
+        record { ended = ap length ended ∙ parts.freeing.ended; newest = newest ∙ parts.freeing.newest; notices_are = omega (arith, many); gaps = parts.freeing.gaps } in
+        let stand : SequencerRefines calls w.primary.committer.closed (record old.primary.sequencer { room = sequencer.room }) = search (rules, parts.sequencer) in
+        search (
+          rules,
+          freeing,
+          subst (SequencerRefines calls w.primary.committer.closed) (sym takes.after) stand,
+          subst (SeatsFollow calls (seats_of old.clients.sessions.connections.items)) (sym takes.after) (record { by_call = parts.follow.by_call; session = parts.follow.session }),
+          Leads-accepted old.primary.contents old.primary.committing.waiting.items old.primary.committing.aside old.primary.sequencer sequencer notice rest
+              (subst (Leads old.primary.contents old.primary.committing.waiting.items old.primary.committing.aside old.primary.sequencer) told parts.leads) takes expected,
+          remembered-on w.standby.position w.standby.position w.primary.committer.position (past_of calls) old.primary.contents old.primary.committing.waiting.items old.primary.committing.aside old.primary.sequencer sequencer
+              (le_refl w.standby.position) ended newest parts.remembers,
+        )
+
+    steps : (first second : Holder) (w : World) → PairRefines first second old w → Steps first second w events.AcceptFreed true old (with_accepted sequencer rest old)
+    steps first second w stands =
+        let some = ap length (sym told) ∙ stands.parts.freeing.notices_are in
+        goes-steps first second w (machine.accepted w) events.AcceptFreed true old (with_accepted sequencer rest old) refl refl (nodes-refine stands) (own-runs stands events.AcceptFreed refl) stands.serves refl refl
+        (record { done = sym (lt-ltb 0 w.primary.notices (omega (arith, some))); goes = λ did. parts-then first second w stands.parts; stays = λ did. absurd (true≢false did) })
+
+pub no_notices : (notices : List Freed) → length notices ≡ 0 → notices ≡ []
+no_notices [] none = refl
+no_notices (notice ∷ notices) none = absurd (omega (arith, none))
+
+-- there was no notice
+pub accept-none : (old : Pair) (notices : List Freed) → old.primary.notices ≡ [] → notices ≡ [] → Does old events.AcceptFreed (Ok false) (record old { primary = record old.primary { notices = notices } })
+accept-none old notices none none' =
+    subst (λ (told : List Freed). Does old events.AcceptFreed (Ok false) (record old { primary = record old.primary { notices = told } })) (none ∙ sym none')
+    (stays-does old events.AcceptFreed refl (λ first second w stands.
+    let few = ap length (sym none) ∙ stands.parts.freeing.notices_are in sym (le-ltb 0 w.primary.notices (omega (arith, few)))))

@@ -1,26 +1,16 @@
 -- What the events of the committer do to the pair, of what they do to its parts.
 use Rattle.std.proofs.Common.{rules, ◌≡◌, Bool, List, ◌∷◌, ◌++◌, Ok, refl, sym, subst, []}
-use Rattle.kv_types.specs.declared.refusal.Refusal.{Refusal}
-use Rattle.kv_types.specs.declared.refusal.Refusal.TheVariants.{Memory, Fault, Exhausted}
-use Rattle.pipes.specs.Waiting.{Waiting}
-use Rattle.model.specs.declared.group.Group.{Group}
-use Rattle.model.specs.declared.work.FreeList.{FreeList}
-use Rattle.model.specs.declared.work.Work.{Work}
-use Rattle.model.specs.Standing.{Holder}
+use Rattle.world.specs.Words.{AreGroupsOf, Commits, committed_first, Exhausted, Fault, FreeList, Frees, Goes, Group, handed, Holder, MachineCommitter, MachineLink, MachineWork, may_happen, Memory, raised_local, ready_again, Refusal, SequencerRefines, Sound, Waiting, with_committer, with_link, Work, World}
 use Rattle.machine.specs.declared.event.Event.TheVariants as events
-use Rattle.machine.specs.Event.{Commits, Frees, Link as MachineLink, Work as MachineWork, World, Committer as MachineCommitter, may_happen, committed_first, handed, handed_to, raised_local, ready_again, with_committer, with_link}
-use Rattle.machine.specs.Sound.{Sound}
+use Rattle.machine.specs.Event.{handed_to}
 use Rattle.world.proofs.LivesLemmas.{nodes-refine, own-runs}
-use Rattle.connections.specs.Going.{Goes}
-use Rattle.node_steps.specs.GroupSpan.{AreGroupsOf}
 use Rattle.world.specs.Cause.{Stretch, Breaks, RestsAtLimit, EndsBy, Resting}
 use Rattle.world.specs.Committing.{Committing, EngineStands, Leads, CommittingRefines}
 use Rattle.world.specs.Link.{LinkRefines}
 use Rattle.world.specs.Recalling.{RemembersFor, past_of}
-use Rattle.connections.specs.Session.{SequencerRefines}
 use Rattle.world.specs.Pair.{Pair, PartsRefine, Does}
 use Rattle.world.proofs.PairLink.{link-alone}
-use Rattle.world.proofs.PairLemmas.{goes-map, goes-steps, none-added}
+use Rattle.world.proofs.PairLemmas.{goes-map, goes-steps, steps-only}
 
 -- ---- a group committed
 
@@ -61,16 +51,12 @@ pub raise-does : (old : Pair) (committing : Committing) (did : Bool)
     → Goes (may_happen w events.RaiseLocal) did (CommittingRefines w.primary.calls committing (raised_local w.primary.committer)) (CommittingRefines w.primary.calls committing w.primary.committer))
     → committing.waiting ≡ old.primary.committing.waiting → committing.aside ≡ old.primary.committing.aside → Does old events.RaiseLocal (Ok did) (with_committing committing old)
 raise-does old committing did go waiting aside =
-    record {
-      steps = λ first second w stands.
-          let parts = stands.parts in
-          goes-steps first second w (with_committer (raised_local w.primary.committer) w) events.RaiseLocal did old (with_committing committing old) refl refl (nodes-refine stands) (own-runs stands events.RaiseLocal refl) stands.serves refl refl
-          (goes-map (go w parts.committing parts.engine.contents_at.at)
-          (λ moved. shown-parts first second old committing w (raised_local w.primary.committer) parts waiting aside moved refl refl)
-          (λ stayed. shown-parts first second old committing w w.primary.committer parts waiting aside stayed refl refl));
-      cut = tt;
-      calls = none-added _ _ refl;
-    }
+    steps-only (λ first second w stands.
+    let parts = stands.parts in
+    goes-steps first second w (with_committer (raised_local w.primary.committer) w) events.RaiseLocal did old (with_committing committing old) refl refl (nodes-refine stands) (own-runs stands events.RaiseLocal refl) stands.serves refl refl
+    (goes-map (go w parts.committing parts.engine.contents_at.at)
+    (λ moved. shown-parts first second old committing w (raised_local w.primary.committer) parts waiting aside moved refl refl)
+    (λ stayed. shown-parts first second old committing w w.primary.committer parts waiting aside stayed refl refl))) refl
 
 -- ---- a group handed on
 
@@ -85,17 +71,13 @@ pub hand-does : (old : Pair) (committing : Committing) (waiting : Waiting Group)
     (CommittingRefines w.primary.calls committing w.primary.committer × AreGroupsOf w.primary.calls waiting.items w.primary.link.waiting))
     → committing.waiting ≡ old.primary.committing.waiting → committing.aside ≡ old.primary.committing.aside → Does old events.Hand (Ok did) (with_handed committing waiting old)
 hand-does old committing waiting did go same aside =
-    record {
-      steps = λ first second w stands.
-          let parts = stands.parts in
-          goes-steps first second w (with_link (handed_to (handed w.primary.committer.stage) w.primary.link) (with_committer (ready_again w.primary.committer) w)) events.Hand did
-          old (with_handed committing waiting old) refl refl (nodes-refine stands) (own-runs stands events.Hand refl) stands.serves refl refl
-          (goes-map (go w stands.sound parts.committing parts.link.waiting)
-          (λ moved. on w (ready_again w.primary.committer) (handed_to (handed w.primary.committer.stage) w.primary.link) parts moved.0 refl refl refl moved.1)
-          (λ stayed. on w w.primary.committer w.primary.link parts stayed.0 refl refl refl stayed.1));
-      cut = tt;
-      calls = none-added _ _ refl;
-    }
+    steps-only (λ first second w stands.
+    let parts = stands.parts in
+    goes-steps first second w (with_link (handed_to (handed w.primary.committer.stage) w.primary.link) (with_committer (ready_again w.primary.committer) w)) events.Hand did
+    old (with_handed committing waiting old) refl refl (nodes-refine stands) (own-runs stands events.Hand refl) stands.serves refl refl
+    (goes-map (go w stands.sound parts.committing parts.link.waiting)
+    (λ moved. on w (ready_again w.primary.committer) (handed_to (handed w.primary.committer.stage) w.primary.link) parts moved.0 refl refl refl moved.1)
+    (λ stayed. on w w.primary.committer w.primary.link parts stayed.0 refl refl refl stayed.1))) refl
   where
     waits : (link : MachineLink) (w : World) → LinkRefines w.primary.calls old.wire.link old.primary.handed old.wire.remote w.primary.link → record w.primary.link { waiting = link.waiting } ≡ link
         → AreGroupsOf w.primary.calls waiting.items link.waiting → LinkRefines w.primary.calls old.wire.link waiting old.wire.remote link

@@ -1,23 +1,17 @@
 -- What a crash of a node does to the pair.
 use Rattle.std.proofs.Common.{cond, rules, le_refl, ◌≡◌, inl, inr, ℕ, ◌≤◌, true, false, ◌&&◌, ◌||◌, List, map, Ok, Vec, Global, refl, sym, ap, subst, ◌∙◌, arith, true≢false, []}
-use Rattle.pmem.specs.Device.{State}
-use Rattle.pmem.specs.Crash.{IsImage, IsSettled, image_of}
-use Rattle.pmem.specs.Runs.{LeavesOnly}
-use Rattle.model.specs.Call.{cut_at, position_of}
-use Rattle.model.proofs.CallsLemmas.{position_of-cut_at}
-use Rattle.model.specs.Standing.{Holder}
+use Rattle.world.specs.Words.{AddsOne, Allowed, At, crashed, cut_at, HasSeat, Holder, image_of, is_enabled, is_running, is_stopped, IsImage, IsSettled, LeavesOnly, left, Life, position_of, reach, Remains, seats_of, State, torn, World}
+use Rattle.world.proofs.Words.{position_of-cut_at}
 use Rattle.machine.specs.declared.event.Event.TheVariants as events
 use Rattle.machine.specs.declared.event.Cut.TheVariants as cuts
 use Rattle.machine.specs.declared.event.Node.TheVariants as node
-use Rattle.machine.specs.Event.{Allowed, World, At, Life, crashed, is_enabled, is_running, is_stopped, left, reach, torn, Remains}
-use Rattle.connections.specs.Session.{AddsOne, HasSeat, seats_of}
 use Rattle.world.specs.Standby.{Arrived, ArrivalsRefine, Node, StandbyRefines}
 use Rattle.world.specs.Pair.{Acts, AreLives, DownRefine, EitherRefines, NodesRefine, Pair, Steps, Lives, Clients, ClientsRefine, Serving}
 use Rattle.world.proofs.AroundLemmas.{around-stands, around-cut, arrivals-lost}
 use Rattle.world.proofs.CutLemmas.{IsDown-cut}
 use Rattle.world.proofs.DownLemmas.{crash-moves, down-crashed}
 use Rattle.world.proofs.LivesLemmas.{not-over, serves-as}
-use Rattle.world.proofs.PairLemmas.{none-added, primary-within, reach-below, moves-primary, moves-standby, does-step, steps-to}
+use Rattle.world.proofs.PairLemmas.{primary-within, reach-below, moves-primary, moves-standby, does-step, steps-to, steps-only}
 use Rattle.world.proofs.PairLives.{stays-acts}
 use Rattle.world.proofs.PairStandby.{follower, standby-either}
 use Rattle.world.proofs.RecallLemmas.{recalls-crashed}
@@ -124,7 +118,7 @@ pub standby-crashes : (old : Pair) (arrivals : Arrived) (node' : Node) (k : ℕ)
     → arrivals.delivered.items ≡ [] → arrivals.acknowledgements ≡ old.wire.arrivals.acknowledgements
     → Acts old (events.Crash node.Standby cuts.Between k picks) (Ok true) (with_crashed_standby arrivals node' old)
 standby-crashes old arrivals node' k picks follows has lost told =
-    record { steps = steps; cut = tt; calls = none-added _ _ refl }
+    (steps-only steps refl)
   where
     new : Pair
     new = with_crashed_standby arrivals node' old

@@ -1,53 +1,34 @@
 -- What a crash inside a call of the primary does to the pair.
 use Rattle.std.proofs.Common.{rules, ◌≡◌, ℕ, ◌<◌, ◌≤◌, true, false, ◌&&◌, ◌||◌, List, ◌++◌, map, Ok, Vec, Global, inl, inr, refl, sym, ap, subst, ◌∙◌, arith, true≢false}
-use Rattle.pmem.specs.Device.{IsOlder, Older, Only, State, Word}
-use Rattle.pmem.specs.Crash.{IsSettled, image_of}
+use Rattle.world.specs.Words.{AddsOne, Allowed, At, Call, Connection, crashed, Cut, cut_at, HasSeat, Holder, image_of, is_between, is_crashed, is_enabled, IsSettled, IsUndamaged, LeavesOnly, left, left_by, MAX_LINES, may_cut, MIN_LINES, Node, reach, RecallsEach, Record, seats_of, Sound, State, StaysReadable, Step, torn, Word, World}
+use Rattle.world.proofs.Words.{lawful_undamaged, LeavesOnly-weaken, position_of-cut_at}
+use Rattle.pmem.specs.Device.{IsOlder, Older, Only}
 use Rattle.pmem.specs.Crash as crash
-use Rattle.pmem.specs.Runs.{LeavesOnly}
-use Rattle.pmem.proofs.Leaving.{LeavesOnly-weaken}
-use Rattle.model.specs.declared.call.Call.{Call}
-use Rattle.model.specs.declared.image.TheConstants.{MAX_LINES, MIN_LINES}
-use Rattle.model.specs.declared.record.Record.{Record}
-use Rattle.model.specs.Call.{cut_at, keyspace_after}
-use Rattle.model.specs.Image.{IsMapOf}
-use Rattle.model.proofs.DirectoryLemmas.{entries_same}
-use Rattle.model.proofs.CallsLemmas.{position_of-cut_at}
-use Rattle.model.specs.Group.{Contents}
-use Rattle.model.specs.Standing.{Holder}
-use Rattle.wbl_engine.specs.Contents.{Keeps}
-use Rattle.wbl_engine.specs.Lawful.{IsUndamaged}
-use Rattle.wbl_engine.specs.Reopening.{StaysReadable}
-use Rattle.wbl_engine.proofs.LawfulLemmas.{lawful_from, lawful_undamaged}
-use Rattle.machine.specs.declared.event.Cut.{Cut}
 use Rattle.machine.specs.declared.event.Cut.TheVariants as cut
 use Rattle.machine.specs.declared.event.Event.TheVariants as events
-use Rattle.machine.specs.declared.event.Node.{Node}
 use Rattle.machine.specs.declared.event.Node.TheVariants as node
-use Rattle.machine.specs.Event.{Allowed, At, Connection, Step, World, crashed, is_between, is_crashed, is_enabled, left, left_by, may_cut, reach, torn}
-use Rattle.machine.specs.Sound.{Sound}
-use Rattle.machine.proofs.SoundEvents.{sound-step}
-use Rattle.primary.specs.Recalling.{RecallsEach}
-use Rattle.connections.specs.Session.{AddsOne, HasSeat, seats_of}
-use Rattle.world.specs.Committing.{AreContentsAt, IsDown}
+use Rattle.world.specs.Committing.{IsDown}
 use Rattle.world.specs.Condition.{has_crashed}
-use Rattle.world.specs.Cutting.{CutsPrimary, LeavesCut, LeavesOf, OpensNear}
-use Rattle.world.specs.Pair.{AreLives, DownRefine, EitherRefines, HasWorld, NodesRefine, Pair, Lives, Clients, ClientsRefine, Serving}
+use Rattle.world.specs.Effect.{LeavesCut, LeavesOf}
+use Rattle.world.specs.Pair.{AreLives, DownRefine, EitherRefines, HasWorld, NodesRefine, Pair, Lives, Clients, ClientsRefine, Serving, Steps}
 use Rattle.world.specs.Recalling.{RecallsFor, past_of}
-use Rattle.world.specs.Step.{CutsOrStays, Leaves}
+use Rattle.world.specs.Step.{IsStep}
 use Rattle.world.specs.Stopping.{BreaksPrimary}
 use Rattle.world.proofs.AroundLemmas.{around-stands, around-cut}
 use Rattle.world.proofs.CutLemmas.{IsDown-cut}
-use Rattle.world.proofs.KeptLemmas.{CrashedIn, crash-leaves, leaves-cut, left-is}
-use Rattle.world.specs.Remaining.{LeftBy}
+use Rattle.world.proofs.DeviceLemmas.{cut-or-still, on-cut}
+use Rattle.world.proofs.KeptLemmas.{CrashedIn, IsDown-kept, crash-leaves, leaves-cut, left-is, readable-keeps}
+use Rattle.world.specs.Remaining.{LeftBy, OpensNear}
 use Rattle.world.proofs.RecallLemmas.{recalled-cut}
 use Rattle.world.proofs.LeftLemmas.{left-there}
 use Rattle.world.proofs.LivesLemmas.{crashed-as}
 use Rattle.world.proofs.OpenedLemmas.{StaysSo}
 use Rattle.world.proofs.PairCrash.{with_crashed_primary}
-use Rattle.world.proofs.PairLemmas.{reach-below, does-step}
+use Rattle.world.proofs.PairLemmas.{does-step, moved-primary, reach-below, steps-to}
 use Rattle.world.proofs.PairLives.{stays-acts}
 use Rattle.world.proofs.PairReopen.{fallen-parts}
 use Rattle.world.proofs.RemainLemmas.{left-opens}
+use Rattle.world.proofs.StepLemmas.{is-step, stays-is}
 
 -- ---- a node that is in no such call
 
@@ -57,19 +38,13 @@ pub cut-enabled : {first second : Holder} {lives : Lives} {w : World} (n : Node)
 cut-enabled {first} {second} {lives} {w} n call k picks inside are =
     ap (λ (a : Allowed). a.restarts && ((is_between call || a.cuts) && may_cut w n call)) are.allowed_are ∙ ap (λ b. (b || true) && may_cut w n call) inside
 
-crash-still : (n : Node) (call : Cut) (k : ℕ) (picks : Vec ℕ Global) (pair : Pair) → Leaves (events.Crash n call k picks) (Ok false) pair pair
-crash-still node.Primary call k picks pair = record { primary = λ idle. refl; standby = λ idle. refl; frames = refl; acknowledgements = refl; effect = tt }
-crash-still node.Standby call k picks pair = record { primary = λ idle. refl; standby = λ idle. refl; frames = refl; acknowledgements = refl; effect = tt }
-
 pub cut-stays : (old : Pair) (n : Node) (call : Cut) (k : ℕ) (picks : Vec ℕ Global) → is_between call ≡ false → ((first second : Holder) (w : World) → NodesRefine first second old w → may_cut w n call ≡ false)
-    → CutsOrStays old (events.Crash n call k picks) false old
-cut-stays old n call k picks inside never = (
-  stays-acts old (events.Crash n call k picks) (λ first second w stands. cut-enabled n call k picks inside stands.lives ∙ never first second w stands),
-  crash-still n call k picks old,
-)
+    → IsStep old (events.Crash n call k picks) (Ok false) old
+cut-stays old n call k picks inside never =
+    stays-is (stays-acts old (events.Crash n call k picks) (λ first second w stands. cut-enabled n call k picks inside stands.lives ∙ never first second w stands))
 
 -- the node has no such call
-pub no-call : (old : Pair) (n : Node) (call : Cut) (k : ℕ) (picks : Vec ℕ Global) → is_between call ≡ false → ((w : World) → may_cut w n call ≡ false) → CutsOrStays old (events.Crash n call k picks) false old
+pub no-call : (old : Pair) (n : Node) (call : Cut) (k : ℕ) (picks : Vec ℕ Global) → is_between call ≡ false → ((w : World) → may_cut w n call ≡ false) → IsStep old (events.Crash n call k picks) (Ok false) old
 no-call old n call k picks inside never = cut-stays old n call k picks inside (λ first second w stands. never w)
 
 -- it is none
@@ -91,8 +66,9 @@ module _ (old : Pair) (call : Cut) (k : ℕ) (picks : Vec ℕ Global) (clients :
   fallen = with_crashed_primary clients serving old
 
   pub falls : (first second : Holder) (w : World) → NodesRefine first second old w → is_enabled w (events.Crash node.Primary call k picks) ≡ true → first.lines ≡ serving.device.lines
-      → LeftBy first w call (image_of serving.device.words) → LeavesOnly old.primary.device serving.device (LeftBy first w call) → CutsPrimary first second w call k picks old fallen
-  falls first second w stands enabled lines_are left-it leaves =
+      → LeftBy first w call (image_of serving.device.words) → LeavesOnly old.primary.device serving.device (LeftBy first w call) → LeavesOf call k picks.items old.primary.device serving.device
+      → Steps first second w (events.Crash node.Primary call k picks) true old fallen
+  falls first second w stands enabled lines_are left-it leaves left-of =
       let event = events.Crash node.Primary call k picks in
       let image = image_of serving.device.words in
       let sound = stands.sound in
@@ -123,26 +99,18 @@ module _ (old : Pair) (call : Cut) (k : ℕ) (picks : Vec ℕ Global) (clients :
         recalls = recalled-cut w.standby.position p calls left-it.contents left-it.recalls;
       } in
       let refines : EitherRefines first second fallen w' = inr (inl (refl, parts)) in
-      record {
-        world = w';
-        step = step;
-        stands = record { sound = sound-step w event true w' step sound; lives = search (rules, stands.lives); parts = refines };
-        leaves = LeavesOnly-weaken (OpensNear first calls w.primary.committer.position (torn w.primary.life ++ left_by w node.Primary call)) (left-opens first w call) leaves;
-        same_standby = (refl, refl);
-      }
+      let lives : AreLives first second fallen.lives w' = search (rules, stands.lives) in
+      steps-to w' stands step lives refines
+      (moved-primary first second old fallen w w' stands.parts refl
+      (on-cut first w event w' node.Primary old.primary.device serving.device (cut-or-still call k picks.items old.primary.device serving.device left-of)
+      (LeavesOnly-weaken (OpensNear first calls w.primary.committer.position (torn w.primary.life ++ left_by w node.Primary call)) (left-opens first w call) leaves)))
 
   -- so of all worlds that the pair stood for
-  pub primary-falls : ((first second : Holder) (w : World) → NodesRefine first second old w → CutsPrimary first second w call k picks old fallen) → LeavesOf call k picks.items old.primary.device serving.device
-      → AddsOne old.clients.transcript.calls clients.transcript.calls → CutsOrStays old (events.Crash node.Primary call k picks) true fallen
-  primary-falls shortened left-of added = record {
-    came = refl;
-    did = refl;
-    shortened = shortened;
-    left = left-of;
-    frames = refl;
-    acknowledgements = refl;
-    calls = added;
-  }
+  pub primary-falls : ((first second : Holder) (w : World) → NodesRefine first second old w → Steps first second w (events.Crash node.Primary call k picks) true old fallen)
+      → LeavesOf call k picks.items old.primary.device serving.device → AddsOne old.clients.transcript.calls clients.transcript.calls → IsStep old (events.Crash node.Primary call k picks) (Ok true) fallen
+  primary-falls steps left-of added =
+      is-step old (events.Crash node.Primary call k picks) (Ok true) fallen (record { steps = steps; cut = tt; calls = added })
+      (record { primary = λ idle. absurd (true≢false idle); standby = λ idle. refl }) refl refl (inl left-of)
 
 -- In this world the call has something to do, and a crash at any moment of it leaves what one that cuts it may leave.
 pub record CutIn (first : Holder) (w : World) (call : Cut) (lines : ℕ) (kept last : State) : Type 0 where
@@ -151,9 +119,9 @@ pub record CutIn (first : Holder) (w : World) (call : Cut) (lines : ℕ) (kept l
   pub leaves : LeavesOnly kept last (LeftBy first w call)
 
 -- a crash inside a call
-leaves-of : (call : Cut) (k : ℕ) (picks : List ℕ) (old new : State) → is_between call ≡ false → LeavesCut k picks old new → LeavesOf call k picks old new
-leaves-of cut.Between k picks old new inside left-cut = absurd (true≢false inside)
-leaves-of call k picks old new inside left-cut = left-cut
+pub leaves-of : {k : ℕ} {picks : List ℕ} {old new : State} (call : Cut) → is_between call ≡ false → LeavesCut k picks old new → LeavesOf call k picks old new
+leaves-of cut.Between inside left-cut = absurd (true≢false inside)
+leaves-of call inside left-cut = left-cut
 
 module _ (old : Pair) (call : Cut) (k : ℕ) (picks : Vec ℕ Global) (kept last : State) (clients : Clients) (serving : Serving)
     (inside : is_between call ≡ false) (off : CrashedIn k picks.items old.primary.device kept last serving.device) (lines : last.lines ≡ kept.lines)
@@ -162,59 +130,43 @@ module _ (old : Pair) (call : Cut) (k : ℕ) (picks : Vec ℕ Global) (kept last
   abbrev new : Pair
   new = with_crashed_primary clients serving old
 
-  shortens : (first second : Holder) (w : World) → NodesRefine first second old w → CutsPrimary first second w call k picks old new
+  left-of : (first second : Holder) (w : World) → NodesRefine first second old w → LeavesOf call k picks.items old.primary.device serving.device
+  left-of first second w stands = leaves-of call inside (leaves-cut off (cut-in first second w stands).leaves)
+
+  shortens : (first second : Holder) (w : World) → NodesRefine first second old w → Steps first second w (events.Crash node.Primary call k picks) true old new
   shortens first second w stands =
       let it = cut-in first second w stands in
       falls old call k picks clients serving off.settled ends unseated first second w stands
       (cut-enabled node.Primary call k picks inside stands.lives ∙ it.may) (it.lines_are ∙ sym (off.lines_are ∙ lines ∙ off.keeps.lines)) (left-is off it.leaves) (crash-leaves off it.leaves)
+      (left-of first second w stands)
 
-  pub primary-cut : HasWorld old → AddsOne old.clients.transcript.calls clients.transcript.calls → CutsOrStays old (events.Crash node.Primary call k picks) true new
-  primary-cut has added =
-      primary-falls old call k picks clients serving off.settled ends unseated shortens
-      (leaves-of call k picks.items old.primary.device serving.device inside (leaves-cut off (cut-in has.first has.second has.world has.stands).leaves)) added
+  pub primary-cut : HasWorld old → AddsOne old.clients.transcript.calls clients.transcript.calls → IsStep old (events.Crash node.Primary call k picks) (Ok true) new
+  primary-cut has added = primary-falls old call k picks clients serving off.settled ends unseated shortens (left-of has.first has.second has.world has.stands) added
 
 -- ---- while it is opened
 
 -- at any moment of the opening of its image a crash leaves an image with the same versions
 opening-left : (holder : Holder) (w : World) (device device' : State) → Sound w → (down : IsDown holder w.primary.calls w.primary.committer.position device)
     → RecallsFor w.standby.position w.primary.committer.position (past_of w.primary.calls) down.contents → StaysSo device device' → LeavesOnly device device' (LeftBy holder w cut.Reopen)
+unfolding readable-keeps
 opening-left holder w device device' sound down recalls stays =
-    let calls = w.primary.calls in
     let p = w.primary.committer.position in
     let c = down.contents in
-    let are = down.contents_at in
     LeavesOnly-weaken (LeftBy holder w cut.Reopen)
     (λ image other.
     let it : StaysReadable c.lines c.current (image_of device.words) image = subst (λ n. StaysReadable n c.current (image_of device.words) image) (sym down.sized) other in
-    let now : Contents = record { current = it.current; lines = c.lines; versions = c.versions; is_free = c.is_free } in
-    let count = entries_same c now it.layout refl in
-    let there : AreContentsAt holder calls p now =
-    record {
-      at = it.position ∙ are.at;
-      role_is = it.role ∙ are.role_is;
-      epoch_is = it.epoch ∙ are.epoch_is;
-      lines_are = are.lines_are;
-      consistent = record { free = are.consistent.free; beyond = λ i past. are.consistent.beyond i (subst (λ n. n ≤ i) count past) };
-      map = subst (λ n. IsMapOf c.versions n (keyspace_after (cut_at calls p))) (sym count) are.map;
-    } in
-    let keeps : Keeps now image =
-    record {
-      superblock = it.undamaged.superblock;
-      has_record = it.undamaged.current.has_record;
-      versions = λ i within. let own = subst (λ n. i < n) count within in it.versions i own ∙ down.keeps.versions i own;
-      entries = it.undamaged.versions.entries;
-    } in
-    left-there holder w cut.Reopen now image sound there (lawful_from c now it.undamaged.current.lawful it.layout refl (λ i. refl) down.lawful)
+    let held = readable-keeps holder w.primary.calls p c (image_of device.words) image down.contents_at down.lawful down.keeps it in
+    left-there holder w cut.Reopen held.contents image sound held.contents_at held.lawful
     (record {
       floored = subst (λ n. n ≤ w.standby.position) (sym it.floor) recalls.floored;
-      recalls = subst (λ n. RecallsEach n p (past_of calls) now) (sym it.floor) recalls.recalls;
-    }) keeps)
+      recalls = subst (λ n. RecallsEach n p (past_of w.primary.calls) held.contents) (sym it.floor) recalls.recalls;
+    }) held.keeps)
     (stays c.current (subst (λ n. IsUndamaged n c.current (image_of device.words)) down.sized (lawful_undamaged c (image_of device.words) down.lawful down.keeps)))
 
 opens-cut : {first second : Holder} {lives : Lives} {w : World} → AreLives first second lives w → may_cut w node.Primary cut.Reopen ≡ has_crashed lives.primary
 opens-cut {first} {second} {lives} {w} are = ap is_crashed are.primary ∙ crashed-as lives.primary (torn w.primary.life)
 
-pub opening-stays : (old : Pair) (k : ℕ) (picks : Vec ℕ Global) → has_crashed old.lives.primary ≡ false → CutsOrStays old (events.Crash node.Primary cut.Reopen k picks) false old
+pub opening-stays : (old : Pair) (k : ℕ) (picks : Vec ℕ Global) → has_crashed old.lives.primary ≡ false → IsStep old (events.Crash node.Primary cut.Reopen k picks) (Ok false) old
 opening-stays old k picks whole = cut-stays old node.Primary cut.Reopen k picks refl (λ first second w stands. opens-cut stands.lives ∙ whole)
 
 settled-only : (words : ℕ → Word) → IsSettled words → (word : ℕ) → Only (words word) (image_of words word)
@@ -229,21 +181,13 @@ settled-only words settled word = record {
 module _ (old : Pair) (t : ℕ) (kept : State) (fallen : has_crashed old.lives.primary ≡ true) (keeps : crash.Keeps old.primary.device kept t) where
   -- with the contents that its image had
   abbrev kept-down : {first second : Holder} {w : World} → NodesRefine first second old w → IsDown first w.primary.calls w.primary.committer.position kept
-  kept-down stands =
-      let down = (fallen-parts old fallen stands.parts).image in
-      record {
-        contents = down.contents;
-        contents_at = down.contents_at;
-        lawful = down.lawful;
-        keeps = subst (λ (words : ℕ → Word). Keeps down.contents (image_of words)) (sym keeps.words) down.keeps;
-        settled = subst IsSettled (sym keeps.words) down.settled;
-        sized = down.sized ∙ sym keeps.lines;
-      }
+  kept-down {first} {second} {w} stands = IsDown-kept first w.primary.calls w.primary.committer.position keeps (fallen-parts old fallen stands.parts).image
 
   pub asked-settled : HasWorld old → (word : ℕ) → Only (kept.words word) (image_of kept.words word)
   asked-settled has = settled-only kept.words (kept-down has.stands).settled
 
   pub opening-cut-in : (last : State) → StaysSo kept last → (first second : Holder) (w : World) → NodesRefine first second old w → CutIn first w cut.Reopen old.primary.device.lines kept last
+  unfolding IsDown-kept
   opening-cut-in last stays first second w stands =
       let lost = fallen-parts old fallen stands.parts in
       record {

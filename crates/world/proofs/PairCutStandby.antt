@@ -1,36 +1,34 @@
--- What a crash inside a call of the standby's leaves of it.
-use Rattle.std.proofs.Common.{◌≡◌, ℕ, ◌<◌, true, false, ◌&&◌, cond, nat_eq, List, [], ◌∷◌, ◌++◌, length, Ok, Vec, Global, refl, sym, ap, ap₂, subst, ◌∙◌, arith, true≢false}
+-- What a crash inside a call of the standby's leaves of it: as it takes a frame, is opened, or is promoted.
+use Rattle.std.proofs.Common.{◌≡◌, ℕ, ◌<◌, true, false, ◌&&◌, cond, nat_eq, List, [], ◌∷◌, ◌++◌, length, Ok, Vec, Global, refl, sym, ap, ap₂, subst, ◌∙◌, arith, OnOk, OnErr, Result, Err}
 use Rattle.std.proofs.lemmas.Bool.{and_right}
-use Rattle.pmem.specs.Device.{State}
-use Rattle.pmem.specs.Crash.{image_of}
-use Rattle.pmem.specs.Runs.{LeavesOnly}
-use Rattle.pmem.proofs.Leaving.{LeavesOnly-weaken}
-use Rattle.model.specs.declared.call.Call.{Call}
-use Rattle.model.specs.Call.{is_nonempty}
-use Rattle.model.specs.Standing.{Holder}
-use Rattle.frames.specs.declared.frame.Frame.{Frame}
+use Rattle.world.specs.Words.{AsPrimary, At, Call, Changes, Contents, Cut, End, ExhaustsPromotion, Follower, Frame, Holder, image_of, is_between, is_crashed, is_follower, is_nonempty, is_retired, is_running, IsBeforeOrPromoted, LeavesOnly, left_by, left_by_first, left_by_told, may_cut, may_remain, Part, promoted_contents, Refusal, Remains, Role, Same, Sent, State, Told, torn, World}
+use Rattle.world.proofs.Words.{LeavesOnly-weaken}
 use Rattle.machine.specs.declared.event.Event.TheVariants as events
-use Rattle.machine.specs.declared.event.Cut.{Cut}
 use Rattle.machine.specs.declared.event.Cut.TheVariants as cuts
 use Rattle.machine.specs.declared.event.Node.TheVariants as node
-use Rattle.machine.specs.Event.{At, Changes, End, Follower, Frame as Sent, Part, Remains, Role, Standby, Told, World, is_between, is_crashed, is_running, left_by, left_by_first, left_by_told, may_cut, may_remain, torn}
-use Rattle.world.specs.Condition.{has_crashed, is_still, runs}
-use Rattle.world.specs.Cutting.{Cuts, LeavesCut, LeavesOf, OpensNear}
+use Rattle.machine.specs.Event.{Standby}
+use Rattle.world.specs.Condition.{has_crashed, is_still, runs, has_ended}
 use Rattle.world.specs.Following.{next_standby}
 use Rattle.world.specs.Link.{AreFramesRead}
-use Rattle.world.specs.Pair.{Acts, HasStandby, HasWorld, NodesRefine, Pair}
-use Rattle.world.specs.Remaining.{KeepsOne}
+use Rattle.world.specs.Pair.{HasStandby, HasWorld, NodesRefine, Pair}
+use Rattle.world.specs.Remaining.{KeepsOne, OpensNear}
+use Rattle.world.specs.Step.{IsStep}
 use Rattle.world.specs.Standby.{Arrived, Node}
 use Rattle.world.proofs.AroundLemmas.{around-stands}
 use Rattle.world.proofs.ArrivalLemmas.{some-wait}
-use Rattle.world.proofs.KeptLemmas.{CrashedIn, IsDown-kept, crash-leaves, keeps-here, keeps-left, leaves-cut, left-is, restart-keeps}
-use Rattle.world.proofs.LivesLemmas.{crashed-as, crashed-not-over, crashed-whole, not-over, running-as, runs-whole, whole-torn}
+use Rattle.world.proofs.KeptLemmas.{CrashedIn, IsDown-kept, crash-leaves, keeps-here, keeps-left, leaves-cut, left-is, restart-keeps, EngineStands-kept, keeps-either}
+use Rattle.world.proofs.LivesLemmas.{crashed-as, crashed-not-over, crashed-whole, not-over, running-as, runs-whole, whole-torn, retired-as}
 use Rattle.world.proofs.OpenedLemmas.{StaysSo}
 use Rattle.world.proofs.PairCrash.{with_crashed_standby}
-use Rattle.world.proofs.PairFallen.{HasFallen, are_behind, fall-enabled, one-behind, stays-behind}
+use Rattle.world.proofs.PairCut.{leaves-of}
+use Rattle.world.proofs.PairFallen.{HasFallen, are_behind, fall-enabled, one-behind, stays-behind, goes-by-image}
 use Rattle.world.proofs.PairLives.{stays-acts}
 use Rattle.world.proofs.PairStandby.{follower}
 use Rattle.world.proofs.RemainLemmas.{keeps-near}
+use Rattle.world.proofs.StepLemmas.{stays-is}
+use Rattle.world.specs.Cutting.{GoesByImage}
+use Rattle.world.proofs.PairPromote.{names-epoch}
+use Rattle.world.proofs.PromotionLemmas.{promotion-keeps}
 
 -- ---- which crash may come
 
@@ -44,11 +42,11 @@ is-opened {first} {second} {pair} {w} stands = ap is_crashed stands.lives.standb
 
 -- a call in which it is not
 pub call-idle : (old : Pair) (call : Cut) (k : ℕ) (picks : Vec ℕ Global) → ((first second : Holder) (w : World) → NodesRefine first second old w → may_cut w node.Standby call ≡ false)
-    → Acts old (events.Crash node.Standby call k picks) (Ok false) old
-call-idle old call k picks never = stays-acts old (events.Crash node.Standby call k picks) (λ first second w stands. fall-enabled call k picks stands.lives ∙ never first second w stands)
+    → IsStep old (events.Crash node.Standby call k picks) (Ok false) old
+call-idle old call k picks never = stays-is (stays-acts old (events.Crash node.Standby call k picks) (λ first second w stands. fall-enabled call k picks stands.lives ∙ never first second w stands))
 
 -- a standby that does not run takes no frame
-pub frame-idle : (old : Pair) (k : ℕ) (picks : Vec ℕ Global) → runs old.lives.standby ≡ false → Acts old (events.Crash node.Standby cuts.Apply k picks) (Ok false) old
+pub frame-idle : (old : Pair) (k : ℕ) (picks : Vec ℕ Global) → runs old.lives.standby ≡ false → IsStep old (events.Crash node.Standby cuts.Apply k picks) (Ok false) old
 frame-idle old k picks down = call-idle old cuts.Apply k picks (λ first second w stands. takes-frame stands ∙ ap (λ b. b && is_nonempty w.standby.waiting) down)
 
 none_wait : {first second : Holder} {pair : Pair} {w : World} → length pair.wire.arrivals.delivered.items ≡ 0 → NodesRefine first second pair w → is_nonempty w.standby.waiting ≡ false
@@ -60,19 +58,15 @@ none_wait {first} {second} {pair} {w} none stands = none_of pair.wire.link.epoch
     none_of epoch calls [] (one ∷ waiting) none are = absurd are
 
 -- nor does one to which none came
-pub frame-none : (old : Pair) (k : ℕ) (picks : Vec ℕ Global) → length old.wire.arrivals.delivered.items ≡ 0 → Acts old (events.Crash node.Standby cuts.Apply k picks) (Ok false) old
+pub frame-none : (old : Pair) (k : ℕ) (picks : Vec ℕ Global) → length old.wire.arrivals.delivered.items ≡ 0 → IsStep old (events.Crash node.Standby cuts.Apply k picks) (Ok false) old
 frame-none old k picks none =
     call-idle old cuts.Apply k picks (λ first second w stands. takes-frame stands ∙ and_right (runs old.lives.standby) (is_nonempty w.standby.waiting) (none_wait none stands))
 
 -- nor is one opened that is not crashed
-pub opening-idle : (old : Pair) (k : ℕ) (picks : Vec ℕ Global) → has_crashed old.lives.standby ≡ false → Acts old (events.Crash node.Standby cuts.Reopen k picks) (Ok false) old
+pub opening-idle : (old : Pair) (k : ℕ) (picks : Vec ℕ Global) → has_crashed old.lives.standby ≡ false → IsStep old (events.Crash node.Standby cuts.Reopen k picks) (Ok false) old
 opening-idle old k picks up = call-idle old cuts.Reopen k picks (λ first second w stands. is-opened stands ∙ up)
 
 -- ---- the device
-
-leaves-of : {k : ℕ} {picks : List ℕ} {old new : State} (call : Cut) → is_between call ≡ false → LeavesCut k picks old new → LeavesOf call k picks old new
-leaves-of cuts.Between inside left = absurd (true≢false inside)
-leaves-of call inside left = left
 
 -- the call was made in this world, and each of its images holds what the standby may leave there
 pub record GoesThrough (second : Holder) (w : World) (call : Cut) (kept mid last : State) : Type 0 where
@@ -123,7 +117,7 @@ pub frame-cuts : (old : Pair) (arrivals : Arrived) (node' : Node) (kept mid : St
     → arrivals.delivered.items ≡ [] → arrivals.acknowledgements ≡ old.wire.arrivals.acknowledgements → CrashedIn k picks.items old.standby.device kept mid node'.device
     → old.standby.contents.lines ≡ old.standby.device.lines → mid.lines ≡ old.standby.device.lines
     → ((first second : Holder) (w : World) → NodesRefine first second old w → LeavesOnly kept mid (KeepsOne second w.primary.calls w.standby.position (At (next_standby w) ∷ [])))
-    → HasWorld old → Cuts old (events.Crash node.Standby cuts.Apply k picks) (Ok true) (with_crashed_standby arrivals node' old)
+    → HasWorld old → IsStep old (events.Crash node.Standby cuts.Apply k picks) (Ok true) (with_crashed_standby arrivals node' old)
 frame-cuts old arrivals node' kept mid k picks follows some lost told is sized lines only any =
     stays-behind old arrivals node' cuts.Apply k picks fallen lost told
     (λ first second w stands.
@@ -146,7 +140,7 @@ frame-cuts old arrivals node' kept mid k picks follows some lost told is sized l
 
 pub opening-cuts : (old : Pair) (arrivals : Arrived) (node' : Node) (kept mid : State) (k : ℕ) (picks : Vec ℕ Global) → has_crashed old.lives.standby ≡ true
     → arrivals.delivered.items ≡ [] → arrivals.acknowledgements ≡ old.wire.arrivals.acknowledgements → CrashedIn k picks.items old.standby.device kept mid node'.device
-    → mid.lines ≡ kept.lines → StaysSo kept mid → HasWorld old → Cuts old (events.Crash node.Standby cuts.Reopen k picks) (Ok true) (with_crashed_standby arrivals node' old)
+    → mid.lines ≡ kept.lines → StaysSo kept mid → HasWorld old → IsStep old (events.Crash node.Standby cuts.Reopen k picks) (Ok true) (with_crashed_standby arrivals node' old)
 opening-cuts old arrivals node' kept mid k picks down lost told is lines stays any =
     stays-behind old arrivals node' cuts.Reopen k picks fallen lost told
     (λ first second w stands.
@@ -166,3 +160,57 @@ opening-cuts old arrivals node' kept mid k picks down lost told is lines stays a
           lines_are = sym was.contents_at.lines_are ∙ was.sized ∙ sym is.keeps.lines ∙ sym lines ∙ sym is.lines_are;
           keeps = LeavesOnly-weaken (KeepsOne second calls p []) (keeps-here second calls p []) (restart-keeps second calls p kept mid (IsDown-kept second calls p is.keeps was) stays);
         }) any
+
+-- ---- which crash may come
+
+is-promoted : {first second : Holder} {pair : Pair} {w : World} → NodesRefine first second pair w → may_cut w node.Standby cuts.Promote ≡ (runs pair.lives.standby && has_ended pair.lives.primary)
+is-promoted {first} {second} {pair} {w} stands =
+    ap₂ (λ a b. a && b) (ap is_running stands.lives.standby ∙ running-as pair.lives.standby (torn w.standby.life)) (ap₂ (λ a b. a && b) (ap is_follower stands.lives.follows) (ap is_retired stands.lives.primary ∙ retired-as pair.lives.primary (torn w.primary.life)))
+
+-- a primary that was not fenced is not succeeded
+pub promotion-unfenced : (old : Pair) (k : ℕ) (picks : Vec ℕ Global) → has_ended old.lives.primary ≡ false → IsStep old (events.Crash node.Standby cuts.Promote k picks) (Ok false) old
+promotion-unfenced old k picks unfenced = call-idle old cuts.Promote k picks (λ first second w stands. is-promoted stands ∙ and_right (runs old.lives.standby) (has_ended old.lives.primary) unfenced)
+
+-- nor by a standby that does not run
+pub promotion-idle : (old : Pair) (k : ℕ) (picks : Vec ℕ Global) → runs old.lives.standby ≡ false → IsStep old (events.Crash node.Standby cuts.Promote k picks) (Ok false) old
+promotion-idle old k picks down = call-idle old cuts.Promote k picks (λ first second w stands. is-promoted stands ∙ ap (λ b. b && has_ended old.lives.primary) down)
+
+-- ---- the image
+
+-- whatever the call answers, the image has as many lines as before
+pub promotion-lines : {X : Type 0} (result : Result X Refusal) (contents after : Contents) → OnOk result (Same (promoted_contents contents) after) → OnErr result (Same contents after) → after.lines ≡ contents.lines
+promotion-lines (Ok x) contents after moved stays = moved.lines
+promotion-lines (Err refusal) contents after moved stays = stays.lines
+
+-- A promotion was cut, and its device crashed: the facts of the calls.
+pub record IsPromotionCutShort (old : Pair) (k : ℕ) (picks : Vec ℕ Global) (kept mid last : State) : Type 0 where
+  pub fenced : has_ended old.lives.primary ≡ true
+  pub follows : runs old.lives.standby ≡ true
+  pub crashed_in : CrashedIn k picks.items old.standby.device kept mid last
+  pub sized : old.standby.contents.lines ≡ old.standby.device.lines
+  pub lines : mid.lines ≡ old.standby.device.lines
+  pub token : ℕ
+  pub token_is : token ≡ old.wire.link.epoch
+  pub full : token ≡ old.standby.contents.current.epoch → old.standby.is_faulted ≡ false → ExhaustsPromotion old.standby.contents.current → mid ≡ kept
+  pub moments : token ≡ old.standby.contents.current.epoch → old.standby.is_faulted ≡ false → LeavesOnly kept mid (IsBeforeOrPromoted old.standby.contents)
+  pub any : HasWorld old
+
+pub promotion-cuts : (old : Pair) (node' : Node) (new : Pair) (kept mid : State) (k : ℕ) (picks : Vec ℕ Global) → IsPromotionCutShort old k picks kept mid node'.device
+    → GoesByImage (record old { standby = node' }) new → IsStep old (events.Crash node.Standby cuts.Promote k picks) (Ok true) new
+promotion-cuts old node' new kept mid k picks cut goes = goes-by-image old node' cuts.Promote k picks new fallen goes
+  where
+    fallen : HasFallen old cuts.Promote k picks node'.device
+    fallen =
+        cut-falls old cuts.Promote kept mid node'.device k picks refl (not-over old.lives.standby cut.follows) (runs-whole old.lives.standby cut.follows) cut.crashed_in
+        (λ first second w stands.
+        let calls = w.primary.calls in
+        let p = w.standby.position in
+        let names = names-epoch old cut.fenced cut.follows first second w stands cut.token cut.token_is in
+        let stood = (follower cut.follows stands.parts).engine in
+        record {
+          may = is-promoted stands ∙ ap₂ (λ a b. a && b) cut.follows cut.fenced;
+          lines_are = sym stood.contents_at.lines_are ∙ cut.sized ∙ sym cut.lines ∙ sym cut.crashed_in.lines_are;
+          keeps = LeavesOnly-weaken (KeepsOne second calls p (AsPrimary ∷ [])) (keeps-either second calls p)
+              (promotion-keeps second calls p kept mid old.standby.contents old.standby.is_faulted
+              (EngineStands-kept second calls p old.standby.contents old.standby.is_faulted cut.crashed_in.keeps stood) (cut.full names stood.sound) (cut.moments names stood.sound));
+        }) cut.any

@@ -1,37 +1,114 @@
--- What a crash inside a step of the primary's committer does to the pair.
-use Rattle.std.proofs.Common.{rules, ◌≡◌, ◌+◌, ◌-◌, ℕ, Bool, true, false, ◌&&◌, nat_lt, length, Result, Vec, Global, refl, sym, ap, subst, ◌∙◌, true≢false}
-use Rattle.pmem.specs.Device.{State, moment}
+-- What a crash inside a step of the primary's committer leaves, and what it does to the pair.
+use Rattle.std.proofs.Common.{rules, ◌≡◌, ◌+◌, ◌-◌, ℕ, Bool, true, false, ◌&&◌, nat_lt, length, Ok, Result, Vec, Global, refl, sym, ap, subst, ◌∙◌, true≢false, ◌⊎◌, ◌<◌, List, Err, inl, inr}
+use Rattle.world.specs.Words.{AddsOne, Committer, Contents, Done, Due, due_of, Fault, Freed, Group, HasSeat, Holder, is_between, is_running, LeavesOnly, Life, may_clear, may_commit, may_cut, may_free, moment, PIPE_ITEMS, Refusal, seats_of, StandsOver, State, torn, Waiting, Work, World}
 use Rattle.pmem.specs.Crash as crash
-use Rattle.kv_types.specs.declared.refusal.Refusal.{Refusal}
-use Rattle.pipes.specs.Waiting.{Waiting}
-use Rattle.model.specs.declared.group.Group.{Group}
-use Rattle.model.specs.declared.work.Work.{Work}
-use Rattle.model.specs.Group.{Contents}
-use Rattle.model.specs.Standing.{Holder}
-use Rattle.group_commit.specs.Due.{due_of}
-use Rattle.group_commit.specs.declared.committer.Committer.{Committer}
-use Rattle.group_commit.specs.declared.due.Due.{Due}
+use Rattle.std.proofs.Math.Nat.{min-le_left}
+use Rattle.group_commit.specs.Working.{TakesGroups}
 use Rattle.group_commit.specs.declared.due.Due.TheVariants as due
-use Rattle.group_commit.specs.declared.stage.Done.{Done}
-use Rattle.machine.specs.declared.event.TheConstants.{PIPE_ITEMS}
 use Rattle.machine.specs.declared.event.Event.TheVariants as events
 use Rattle.machine.specs.declared.event.Node.TheVariants as node
-use Rattle.machine.specs.Event.{Life, World, is_between, is_running, may_clear, may_commit, may_cut, may_free, torn}
-use Rattle.primary.specs.Standing.{StandsOver}
-use Rattle.connections.specs.Session.{AddsOne, HasSeat, seats_of}
 use Rattle.world.specs.Committing.{Committing, link_has_room}
 use Rattle.world.specs.Condition.{runs}
 use Rattle.world.specs.Cutting.{cut_of}
 use Rattle.world.specs.Pair.{HasWorld, NodesRefine, Pair, PairRefines, PartsRefine, Clients, Serving}
-use Rattle.world.specs.Step.{CutsOrStays}
+use Rattle.world.specs.Step.{IsStep}
 use Rattle.world.proofs.KeptLemmas.{CrashedIn, EngineStands-kept}
 use Rattle.world.proofs.LivesLemmas.{running-as, serves-as, serving}
 use Rattle.world.proofs.PairCrash.{with_crashed_primary}
 use Rattle.world.proofs.PairCut.{CutIn, EndsThere, cut-stays, primary-cut}
 use Rattle.world.proofs.PairLemmas.{back-stands}
-use Rattle.world.proofs.PairStepLeft.{step-left, step-lines}
-use Rattle.world.proofs.PairTurns.{Took, pair_of, took-step}
-use Rattle.world.proofs.QueueLemmas.{clear-disabled, commit-disabled, free-disabled}
+use Rattle.world.proofs.OneGroupLemmas.{TakesGroup, takes-one}
+use Rattle.world.proofs.PairTurns.{Took, link_room, pair_of, took-step, commit-left, pair_with}
+use Rattle.world.proofs.QueueLemmas.{clear-disabled, commit-disabled, free-disabled, clear-enabled, commit-enabled, free-enabled}
+use Rattle.world.specs.Remaining.{LeftBy}
+use Rattle.world.specs.Stopping.{BreaksPrimary}
+use Rattle.world.proofs.PairClearing.{clear-left}
+use Rattle.world.proofs.PairFreeing.{free-left}
+
+module _ {E : Type 0} (device : E → State) (contents : E → Contents) (is_faulted : E → Bool) (pair : Pair)
+    (before : Committer E) (works : Waiting Work) (handed : Waiting Group) (after : Committer E) (works' : Waiting Work) (handed' : Waiting Group) where
+  -- the pair with these notices, before it and after it
+  abbrev from : Pair
+  from = pair_of device contents is_faulted pair before works handed
+
+  abbrev onto : List Freed → Pair
+  onto notices' = pair_with device contents is_faulted pair after works' notices' handed'
+
+  abbrev now-due : Due
+  now-due = due_of before.stage before.aside.items works.items (link_has_room handed.items) (nat_lt 0 (length (contents before.engine).current.gaps.items)) pair.wire.remote
+
+  abbrev Gone : Due → Result Done Refusal → Type 0
+  Gone step result = Took device contents is_faulted step (link_has_room handed.items) pair.wire.remote before works handed result after works' handed'
+
+  runs-and : {first second : Holder} {w : World} (b : Bool) → PairRefines first second from w → b ≡ true → (is_running w.primary.life && b) ≡ true
+  runs-and b refines on = ap (λ (life : Life). is_running life && b) (serving refines) ∙ on
+
+  -- the machine's call has something to do, and at any moment of the step a crash leaves what that may leave
+  pub step-left : (step : Due) (result : Result Done Refusal) → is_between (cut_of step) ≡ false → now-due ≡ step → Gone step result → (first second : Holder) (w : World) → PairRefines first second from w
+      → (may_cut w node.Primary (cut_of step) ≡ true) × LeavesOnly (device before.engine) (device after.engine) (LeftBy first w (cut_of step))
+  step-left due.Commit result inside is came first second w refines = (
+    runs-and (may_commit w) refines
+        (commit-enabled w from.primary.committing handed.items refines.parts.committing refines.parts.link.waiting pair.wire.remote (length from.primary.contents.current.gaps.items) is),
+    commit-left device contents is_faulted pair before after works works' handed handed' result
+        came first second w refines,
+  )
+  step-left due.Free result inside is came first second w refines = (
+    runs-and (may_free w) refines
+        (free-enabled w from.primary.committing handed.items refines.parts.committing refines.parts.link.waiting pair.wire.remote (length from.primary.contents.current.gaps.items) refines.parts.link.remote_is is),
+    free-left device contents is_faulted pair before works handed is after works' handed' result
+        came first second w refines,
+  )
+  step-left due.Clear result inside is came first second w refines = (
+    runs-and (may_clear w) refines
+        (clear-enabled w from.primary.committing handed.items refines.parts.committing refines.parts.link.waiting pair.wire.remote (length from.primary.contents.current.gaps.items) refines.parts.freeing.gaps is),
+    clear-left device contents is_faulted pair before works handed is after works' handed' result
+        came first second w refines,
+  )
+  step-left step result inside is came first second w refines = absurd (true≢false inside)
+
+  -- a group was taken
+  one-taken : (result : Result Done Refusal) → TakesGroups device contents is_faulted (link_room handed') pair.wire.remote before works result after works' → TakesGroup device contents is_faulted pair.wire.remote before works result after works'
+  one-taken result took = takes-one device contents is_faulted (link_room handed') pair.wire.remote before works result after works' (min-le_left 1 (PIPE_ITEMS - length handed'.items)) took
+
+  -- the image has as many lines as before
+  pub step-lines : (step : Due) (result : Result Done Refusal) → is_between (cut_of step) ≡ false → Gone step result → (contents after.engine).lines ≡ (contents before.engine).lines
+  step-lines due.Commit result inside (none, inl took) = (one-taken result took).commits.lines
+  step-lines due.Commit result inside (none, inr lacks) = ap (λ (e : E). (contents e).lines) lacks.engine
+  step-lines due.Free result inside (none, inl frees) = frees.frees.lines
+  step-lines due.Free result inside (none, inr lacks) = ap (λ (e : E). (contents e).lines) lacks.engine
+  step-lines due.Clear result inside (none, queue, clears) = clears.lines
+  step-lines step result inside came = absurd (true≢false inside)
+
+  -- a fence failed in it
+  step-failed : (step : Due) (refusal : Refusal) → refusal ≡ Fault → is_between (cut_of step) ≡ false → Gone step (Err refusal) → is_faulted before.engine ≡ false → (device before.engine).failures < (device after.engine).failures
+  step-failed step refusal fault inside came sound = elim (by step inside came) [
+    | inl was ↦ absurd (true≢false (sym was ∙ sound))
+    | inr now ↦ now
+  ]
+    where
+      by : (step : Due) → is_between (cut_of step) ≡ false → Gone step (Err refusal) → (is_faulted before.engine ≡ true) ⊎ ((device before.engine).failures < (device after.engine).failures)
+      by due.Commit inside (none, inl took) = (one-taken (Err refusal) took).commits.of_all.fault (ap Err fault)
+      by due.Commit inside (none, inr lacks) = absurd (let no = lacks.answer in let is = fault in cc)
+      by due.Free inside (none, inl frees) = frees.frees.fault (ap Err fault)
+      by due.Free inside (none, inr lacks) = absurd (let no = lacks.answer in let is = fault in cc)
+      by due.Clear inside (none, queue, clears) = clears.fault (ap Err fault)
+      by step inside came = absurd (true≢false inside)
+
+  pub step-breaks : (step : Due) (refusal : Refusal) (notices' : List Freed) → refusal ≡ Fault → is_between (cut_of step) ≡ false → runs pair.lives.primary ≡ true → now-due ≡ step → Gone step (Err refusal)
+      → ((engine : E) → (contents engine).lines ≡ (device engine).lines) → BreaksPrimary (cut_of step) from (onto notices')
+  step-breaks step refusal notices' fault inside up is came sized = record {
+    fails = λ first second w stands.
+        let refines = serves-as up stands in
+        let both = step-left step (Err refusal) inside is came first second w refines in
+        record {
+          enabled = both.0;
+          leaves = both.1;
+          failures = step-failed step refusal fault inside came refines.parts.engine.sound;
+          lines_are = sym (sized after.engine) ∙ step-lines step (Err refusal) inside came ∙ sized before.engine;
+        };
+    lines_are = λ first second w stands. sym (sized before.engine) ∙ (serves-as up stands).parts.engine.contents_at.lines_are;
+    rest = refl;
+  }
 
 -- the device was asked to keep a moment
 kept-parts : {t : ℕ} (first second : Holder) (old : Pair) (device : State) (w : World) → crash.Keeps old.primary.device device t → PartsRefine first second old w → PartsRefine first second (record old { primary = record old.primary { device = device } }) w
@@ -110,7 +187,7 @@ module _ {E : Type 0} (device : E → State) (contents : E → Contents) (is_fau
 
         -- the step that is due was taken
         abbrev room : Bool
-        room = nat_lt 0 (PIPE_ITEMS - length handed'.items)
+        room = nat_lt 0 (link_room handed')
 
         abbrev Taken : Type 0
         Taken = Took device contents is_faulted (due_of kept.stage kept.aside.items works'.items room (nat_lt 0 (length (contents kept.engine).current.gaps.items)) pair.wire.remote) room pair.wire.remote kept works' handed result after works'' handed'
@@ -130,7 +207,7 @@ module _ {E : Type 0} (device : E → State) (contents : E → Contents) (is_fau
             → runs pair.lives.primary ≡ true → due-by before works handed ≡ step → Taken → ((engine : E) → (contents engine).lines ≡ (device engine).lines)
             → CrashedIn k picks.items (device before.engine) (device kept.engine) (device after.engine) serving'.device → EndsThere serving'.device pair.clients clients'
             → ((c seat : ℕ) → ¬ HasSeat (seats_of clients'.sessions.connections.items) c seat) → HasWorld old → AddsOne pair.clients.transcript.calls clients'.transcript.calls
-            → CutsOrStays old (events.Crash node.Primary (cut_of step) k picks) true (with_crashed_primary clients' serving' old)
+            → IsStep old (events.Crash node.Primary (cut_of step) k picks) (Ok true) (with_crashed_primary clients' serving' old)
         step-cut step picks clients' serving' inside up is taken sized off ends unseated has added =
             primary-cut old (cut_of step) k picks (device kept.engine) (device after.engine) clients' serving' inside off
             (same-device-lines step inside is taken sized) (step-cut-in step inside is (came-so step is taken) (sized before.engine) up) ends unseated has added
@@ -138,7 +215,7 @@ module _ {E : Type 0} (device : E → State) (contents : E → Contents) (is_fau
 -- ---- it does not come to the step
 
 -- the primary does not run
-pub cut-down : (old : Pair) (step : Due) (k : ℕ) (picks : Vec ℕ Global) → is_between (cut_of step) ≡ false → runs old.lives.primary ≡ false → CutsOrStays old (events.Crash node.Primary (cut_of step) k picks) false old
+pub cut-down : (old : Pair) (step : Due) (k : ℕ) (picks : Vec ℕ Global) → is_between (cut_of step) ≡ false → runs old.lives.primary ≡ false → IsStep old (events.Crash node.Primary (cut_of step) k picks) (Ok false) old
 cut-down old step k picks inside down = cut-stays old node.Primary (cut_of step) k picks inside (λ first second w stands. by step inside w (ap is_running stands.lives.primary ∙ running-as old.lives.primary (torn w.primary.life) ∙ down))
   where
     by : (step : Due) → is_between (cut_of step) ≡ false → (w : World) → is_running w.primary.life ≡ false → may_cut w node.Primary (cut_of step) ≡ false
@@ -150,7 +227,7 @@ cut-down old step k picks inside down = cut-stays old node.Primary (cut_of step)
 -- another step is due
 pub cut-not-due : (old : Pair) (step : Due) (k : ℕ) (picks : Vec ℕ Global) → is_between (cut_of step) ≡ false → runs old.lives.primary ≡ true
     → (due_of old.primary.committing.stage old.primary.committing.aside old.primary.committing.waiting.items (link_has_room old.primary.handed.items) (nat_lt 0 (length old.primary.contents.current.gaps.items)) old.wire.remote ≡ step → ⊥)
-    → CutsOrStays old (events.Crash node.Primary (cut_of step) k picks) false old
+    → IsStep old (events.Crash node.Primary (cut_of step) k picks) (Ok false) old
 cut-not-due old step k picks inside up never = cut-stays old node.Primary (cut_of step) k picks inside (λ first second w stands. by step inside never first second w (serves-as up stands))
   where
     runs-not : (w : World) (b : Bool) {first second : Holder} → PairRefines first second old w → false ≡ b → (is_running w.primary.life && b) ≡ false

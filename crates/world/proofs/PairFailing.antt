@@ -1,26 +1,25 @@
--- What it does to the pair that a fence of a device is asked to fail.
-use Rattle.std.proofs.Common.{rules, le_refl, ◌≡◌, inl, inr, ℕ, nat_lt, Bool, true, ◌&&◌, List, ◌∷◌, Ok, refl, sym, ap, ap₂, subst, ◌∙◌, []}
-use Rattle.pmem.specs.Device.{State}
-use Rattle.pmem.specs.Runs.{LeavesOnly}
+-- What a request that a fence fail, and the fence of the primary, do to the pair.
+use Rattle.std.proofs.Common.{rules, le_refl, ◌≡◌, inl, inr, ℕ, nat_lt, Bool, true, ◌&&◌, List, ◌∷◌, Ok, refl, sym, ap, ap₂, subst, ◌∙◌, [], false, not}
+use Rattle.world.specs.Words.{Allowed, At, Call, Contents, FailFence, Holder, Image, is_enabled, is_running, LeavesOnly, Remains, State, torn, World, Fence, is_retired, IsImage, Keeps, Life, with_life}
 use Rattle.pmem.proofs.Leaving.{MayLeave-now}
-use Rattle.model.specs.declared.call.Call.{Call}
-use Rattle.model.specs.Group.{Contents}
-use Rattle.model.specs.Image.{Image}
-use Rattle.model.specs.Standing.{Holder}
-use Rattle.machine.specs.declared.event.Event.TheVariants.{FailFence}
 use Rattle.machine.specs.declared.event.Node.{Node as Which}
 use Rattle.machine.specs.declared.event.Node.TheVariants as node
-use Rattle.machine.specs.Event.{Allowed, At, Remains, World, asked_to_fail, is_enabled, is_running, on_disk, torn}
+use Rattle.machine.specs.Event.{asked_to_fail, on_disk, Retired}
 use Rattle.world.specs.Committing.{EngineStands}
-use Rattle.world.specs.Remaining.{MovesNear, OpensNear, Remain}
-use Rattle.world.specs.Condition.{runs}
+use Rattle.world.specs.Remaining.{MovesNear, OpensNear, Remain, LeftBy}
+use Rattle.world.specs.Condition.{runs, has_ended}
 use Rattle.world.specs.Effect.{asked}
-use Rattle.world.specs.Pair.{FreeingRefines, Acts, EitherRefines, NodesRefine, Pair, PartsRefine, Steps, takes_part, Serving}
+use Rattle.world.specs.Pair.{FreeingRefines, Acts, EitherRefines, NodesRefine, Pair, PartsRefine, Steps, takes_part, Serving, AreLives, StillRefine, Lives}
 use Rattle.world.specs.Standby.{Node, StandbyRefines, StandbyStands}
 use Rattle.world.proofs.AroundLemmas.{around-stands}
-use Rattle.world.proofs.LivesLemmas.{not-crashed, not-over, not-still, stopped-still, running-as, serves-as}
-use Rattle.world.proofs.PairLemmas.{none-added, primary-stands, standby-stands, asked-either, moves-primary, moves-standby, does-step, steps-to}
+use Rattle.world.proofs.LivesLemmas.{not-crashed, not-over, not-still, stopped-still, running-as, serves-as, retired-as}
+use Rattle.world.proofs.PairLemmas.{primary-stands, standby-stands, asked-either, moves-primary, moves-standby, does-step, steps-to, steps-only, untouched}
 use Rattle.world.proofs.PairStandby.{follower, standby-either, with_standby_as}
+use Rattle.machine.specs.declared.event.Cut.TheVariants as cut
+use Rattle.world.specs.declared.condition.Condition.TheVariants.{Ended}
+use Rattle.world.proofs.DownLemmas.{settled-image}
+use Rattle.world.proofs.LeftLemmas.{left-fenced, left-running, left-there}
+use Rattle.world.proofs.PairLives.{stays-acts}
 
 -- ---- the device
 
@@ -52,7 +51,7 @@ abbrev pub with_failing_primary : ℕ → Serving → Pair → Pair
 with_failing_primary n serving pair = record pair { primary = serving; lives = record pair.lives { asked = record pair.lives.asked { primary = nat_lt 0 n } } }
 
 primary-failing : (old : Pair) (n : ℕ) → runs old.lives.primary ≡ true → Acts old (FailFence node.Primary n) (Ok true) (with_failing_primary n (record old.primary { device = asked n old.primary.device }) old)
-primary-failing old n up = record { steps = steps; cut = tt; calls = none-added _ _ refl }
+primary-failing old n up = steps-only steps refl
   where
     new : Pair
     new = with_failing_primary n (record old.primary { device = asked n old.primary.device }) old
@@ -85,7 +84,7 @@ abbrev pub with_failing_standby : ℕ → Node → Pair → Pair
 with_failing_standby n node pair = record pair { standby = node; lives = record pair.lives { asked = record pair.lives.asked { standby = nat_lt 0 n } } }
 
 standby-failing : (old : Pair) (n : ℕ) → runs old.lives.standby ≡ true → Acts old (FailFence node.Standby n) (Ok true) (with_failing_standby n (record old.standby { device = asked n old.standby.device }) old)
-standby-failing old n follows = record { steps = steps; cut = tt; calls = none-added _ _ refl }
+standby-failing old n follows = steps-only steps refl
   where
     node' : Node
     node' = record old.standby { device = asked n old.standby.device }
@@ -133,3 +132,51 @@ node-runs primary standby which n takes = (
   λ is. ap (λ (x : Which). takes_part primary standby (FailFence x n)) (sym is) ∙ takes,
   λ is. ap (λ (x : Which). takes_part primary standby (FailFence x n)) (sym is) ∙ takes,
 )
+
+-- it is enabled where the primary was not fenced
+fence-enabled : {first second : Holder} {lives : Lives} {w : World} → AreLives first second lives w → is_enabled w Fence ≡ not (has_ended lives.primary)
+fence-enabled {first} {second} {lives} {w} are =
+    ap (λ (a : Allowed). a.fencing && not (is_retired w.primary.life)) are.allowed_are ∙ ap (λ (l : Life). not (is_retired l)) are.primary ∙ ap not (retired-as lives.primary (torn w.primary.life))
+
+pub primary-fenced : (old : Pair) → has_ended old.lives.primary ≡ true → Acts old Fence (Ok false) old
+primary-fenced old fenced = stays-acts old Fence (λ first second w stands. fence-enabled stands.lives ∙ ap not fenced)
+
+abbrev pub with_fenced_primary : Pair → Pair
+with_fenced_primary pair = record pair { lives = record pair.lives { primary = Ended } }
+
+-- its device may hold what a crash may leave of it now
+primary-left : (first second : Holder) (old : Pair) (w : World) → NodesRefine first second old w → (image : Image) → IsImage old.primary.device.words image → LeftBy first w cut.Between image
+primary-left first second old w stands image is = elim stands.parts [
+  | inl up ↦ left-running first second old w cut.Between image stands.sound up.1 (up.1.engine.durable image is)
+  | inr (inl down) ↦
+      let there = down.1.image in
+      left-there first w cut.Between there.contents image stands.sound there.contents_at there.lawful down.1.recalls
+      (subst (Keeps there.contents) (sym (settled-image old.primary.device.words image there.settled is)) there.keeps)
+  | inr (inr still) ↦ still.1.left image is
+]
+
+-- and has the lines of its holder
+primary-lines : (first second : Holder) (old : Pair) (w : World) → old.primary.contents.lines ≡ old.primary.device.lines → NodesRefine first second old w → old.primary.device.lines ≡ first.lines
+primary-lines first second old w sized stands = elim stands.parts [
+  | inl up ↦ sym sized ∙ up.1.engine.contents_at.lines_are
+  | inr (inl down) ↦ sym down.1.image.sized ∙ down.1.image.contents_at.lines_are
+  | inr (inr still) ↦ still.1.lines_are
+]
+
+pub primary-fences : (old : Pair) → has_ended old.lives.primary ≡ false → old.primary.contents.lines ≡ old.primary.device.lines → Acts old Fence (Ok true) (with_fenced_primary old)
+primary-fences old unfenced sized = steps-only steps refl
+  where
+    new : Pair
+    new = with_fenced_primary old
+
+    steps : (first second : Holder) (w : World) → NodesRefine first second old w → Steps first second w Fence true old new
+    steps first second w stands =
+        let lives = stands.lives in
+        let w' = with_life node.Primary (Retired (torn w.primary.life)) w in
+        let still : StillRefine first second new w' =
+        record {
+          around = around-stands stands.parts;
+          lines_are = primary-lines first second old w sized stands;
+          left = λ image is. left-fenced first w image (primary-left first second old w stands image is);
+        } in
+        steps-to w' stands (does-step (fence-enabled lives ∙ ap not unfenced) refl) (search (rules, lives)) (inr (inr (refl, still))) (untouched first second old new w w' refl refl stands.parts)

@@ -1,35 +1,23 @@
 -- What a crash of the standby, inside a call of it or once it had stopped, does to the pair: its image is a standby's still, or that of the primary which it becomes.
 use Rattle.std.proofs.Common.{rules, ◌≡◌, ◌≢◌, ◌⊎◌, inl, inr, ℕ, zero, suc, ◌+◌, ◌<◌, ◌≤◌, Bool, true, false, ◌||◌, ◌&&◌, cond, if◌then◌else◌, List, [], ◌∷◌, ◌++◌, length, get_or, map, Option, Some, None, Ok, Vec, Global, refl, sym, ap, subst, ◌∙◌, arith, true≢false}
-use Rattle.std.proofs.lemmas.Bool.{or_right}
+use Rattle.world.specs.Words.{Allowed, AsFollower, AsPrimary, At, Call, crashed, Cut, cut_at, Follower, HasSeat, Holder, Image, image_of, is_between, is_enabled, IsSettled, IsUndamaged, LeavesOnly, left, left_by, may_cut, may_remain, position_of, promoted, Record, Remains, seats_of, State, Step, torn, with_standby, World}
+use Rattle.world.proofs.Words.{grows-step, lawful_undamaged, LeavesOnly-weaken, or_right, position_of-cut_at}
 use Rattle.std.specs.Prelude.{Contains}
-use Rattle.pmem.specs.Device.{State}
-use Rattle.pmem.specs.Crash.{IsSettled, image_of}
-use Rattle.pmem.specs.Runs.{LeavesOnly}
-use Rattle.model.specs.declared.call.Call.{Call}
-use Rattle.model.specs.declared.record.Record.{Record}
 use Rattle.model.specs.declared.record.Role.{Role}
 use Rattle.model.specs.declared.record.Role.TheVariants as role
-use Rattle.model.specs.Call.{cut_at, position_of}
-use Rattle.model.specs.Image.{Image}
-use Rattle.model.specs.Standing.{Holder}
-use Rattle.model.proofs.CallsLemmas.{position_of-cut_at}
-use Rattle.wbl_engine.specs.Lawful.{IsUndamaged}
-use Rattle.wbl_engine.proofs.LawfulLemmas.{lawful_undamaged}
 use Rattle.machine.specs.declared.event.Event.TheVariants as events
-use Rattle.machine.specs.declared.event.Cut.{Cut}
 use Rattle.machine.specs.declared.event.Node.TheVariants as node
-use Rattle.machine.specs.Event.{Allowed, AsFollower, AsPrimary, At, Follower, Remains, Role as MachineRole, Step, World, crashed, crashed_standby, is_between, is_enabled, left, left_by, may_cut, may_remain, promoted, torn, with_standby}
-use Rattle.machine.proofs.GrowLemmas.{grows-step}
-use Rattle.machine.proofs.SoundEvents.{sound-promoted, sound-step}
-use Rattle.connections.specs.Session.{HasSeat, seats_of}
-use Rattle.world.specs.Committing.{IsDown, promoted_holder}
+use Rattle.machine.specs.Event.{Role as MachineRole, crashed_standby}
+use Rattle.machine.proofs.SoundEvents.{sound-promoted}
+use Rattle.world.specs.Committing.{IsDown, OpensAt, promoted_holder}
 use Rattle.world.specs.Condition.{has_crashed, has_ended, life_as}
-use Rattle.world.specs.Cutting.{ComesForward, Cuts, CutsStandby, FallsBehind, Finds, GoesByImage, LeavesOf, OpensNear}
+use Rattle.world.specs.Cutting.{ComesForward, FallsBehind, Finds, GoesByImage}
+use Rattle.world.specs.Effect.{LeavesOf}
 use Rattle.world.specs.declared.condition.AskedFences.{AskedFences}
 use Rattle.world.specs.declared.condition.Condition.{Condition}
 use Rattle.world.specs.declared.condition.Condition.TheVariants.{Crashed, Ended}
-use Rattle.world.specs.Pair.{AreLives, DownRefine, EitherRefines, HasStandby, NodesRefine, Pair, first_device, primary_number, second_device, Lives, ClientsRefine, surroundings_of}
-use Rattle.world.specs.Remaining.{KeepsAs, KeepsAt, KeepsOne, KeepsPromoted}
+use Rattle.world.specs.Pair.{AreLives, DownRefine, EitherRefines, HasStandby, NodesRefine, Pair, Steps, Succeeds, first_device, primary_number, second_device, Lives, ClientsRefine, surroundings_of}
+use Rattle.world.specs.Remaining.{KeepsAs, KeepsAt, KeepsOne, KeepsPromoted, OpensNear}
 use Rattle.world.specs.Standby.{Arrived, ArrivalsRefine, Node, StandbyRefines}
 use Rattle.world.proofs.AroundLemmas.{around-stands, around-promoted, arrivals-lost}
 use Rattle.world.proofs.CutLemmas.{IsDown-cut}
@@ -37,9 +25,12 @@ use Rattle.world.proofs.KeptLemmas.{kept-down, promoted-down}
 use Rattle.world.proofs.RecallLemmas.{recalled-none}
 use Rattle.world.specs.Recalling.{past_of}
 use Rattle.world.proofs.PairCrash.{with_crashed_standby}
-use Rattle.world.proofs.PairLemmas.{none-added, standby-within, does-step}
+use Rattle.world.proofs.DeviceLemmas.{cut-or-still, on-cut}
+use Rattle.world.proofs.PairLemmas.{does-step, moved-standby, standby-within, steps-to, steps-only}
 use Rattle.world.proofs.PairStandby.{standby-either}
 use Rattle.world.proofs.PromotionLemmas.{former_holder}
+use Rattle.world.proofs.StepLemmas.{is-step, promoted-is}
+use Rattle.world.specs.Step.{IsStep}
 
 -- ---- which crash may come
 
@@ -105,8 +96,8 @@ standby-cut : (old : Pair) (arrivals : Arrived) (node' : Node) (call : Cut) (k :
     → (first second : Holder) (w : World) → NodesRefine first second old w → is_enabled w (events.Crash node.Standby call k picks) ≡ true
     → (p : ℕ) (one : Remains) → IsOfStandby p one → Contains (may_remain w node.Standby call) one → IsDown second w.primary.calls p node'.device
     → LeavesOnly old.standby.device node'.device (OpensNear second w.primary.calls w.standby.position (torn w.standby.life ++ left_by w node.Standby call))
-    → CutsStandby first second w call k picks old (with_crashed_standby arrivals node' old)
-standby-cut old arrivals node' call k picks whole lost told first second w stands enabled p one of may image leaves =
+    → LeavesOf call k picks.items old.standby.device node'.device → Steps first second w (events.Crash node.Standby call k picks) true old (with_crashed_standby arrivals node' old)
+standby-cut old arrivals node' call k picks whole lost told first second w stands enabled p one of may image leaves left-of =
     let new = with_crashed_standby arrivals node' old in
     let event = events.Crash node.Standby call k picks in
     let calls = w.primary.calls in
@@ -119,14 +110,9 @@ standby-cut old arrivals node' call k picks whole lost told first second w stand
     let later : w.standby.position ≤ p = (grows-step w event true w' step stands.sound).safe in
     let refines : EitherRefines first second new w' = standby-either first second old arrivals node' Crashed w w'.standby w.wire.acknowledgements whole later stands.parts empty down in
     let lives : AreLives first second new.lives w' = search (rules, stands.lives, stands.lives.primary_disk ∙ ap (λ b. cond b 1 0) whole) in
-    record {
-      world = w';
-      step = step;
-      began = whole;
-      goes = inl (record { stands = record { sound = sound-step w event true w' step stands.sound; lives = lives; parts = refines }; whole = refl });
-      leaves = subst (λ (d : State). LeavesOnly d node'.device (OpensNear second calls w.standby.position (torn w.standby.life ++ left_by w node.Standby call))) (sym (devices-are old whole).1) leaves;
-      first_stays = sym (devices-are old whole).0;
-    }
+    steps-to w' stands step lives refines
+    (moved-standby first second old new w w' stands.parts refl
+    (λ _. on-cut second w event w' node.Standby old.standby.device node'.device (cut-or-still call k picks.items old.standby.device node'.device left-of) leaves))
 
 -- all of these are a standby's
 abbrev pub are_behind : List Remains → Bool
@@ -150,27 +136,21 @@ one-behind others one behind is = by others behind is.0 is.1 is.2
 pub stays-behind : (old : Pair) (arrivals : Arrived) (node' : Node) (call : Cut) (k : ℕ) (picks : Vec ℕ Global) (fallen : HasFallen old call k picks node'.device)
     → arrivals.delivered.items ≡ [] → arrivals.acknowledgements ≡ old.wire.arrivals.acknowledgements
     → ((first second : Holder) (w : World) (stands : NodesRefine first second old w) → (q : ℕ) × IsOfStandby q (fallen.falls first second w stands).held.one)
-    → Cuts old (events.Crash node.Standby call k picks) (Ok true) (with_crashed_standby arrivals node' old)
+    → IsStep old (events.Crash node.Standby call k picks) (Ok true) (with_crashed_standby arrivals node' old)
 stays-behind old arrivals node' call k picks fallen lost told behind =
-    record {
-      came = refl;
-      did = refl;
-      shortened = shortened;
-      left = subst (λ (d : State). LeavesOf call k picks.items d node'.device) (sym (devices-are old fallen.whole).1) fallen.left;
-      frames = refl;
-      acknowledgements = ap (λ (acks : Vec (Vec ℕ Global) Global). acks.items) told;
-      calls = none-added _ _ refl;
-    }
+    is-step old (events.Crash node.Standby call k picks) (Ok true) (with_crashed_standby arrivals node' old) (steps-only steps refl)
+    (record { primary = λ idle. refl; standby = λ idle. absurd (true≢false idle) }) refl (ap (λ (acks : Vec (Vec ℕ Global) Global). acks.items) told)
+    (inl (subst (λ (d : State). LeavesOf call k picks.items d node'.device) (sym (devices-are old fallen.whole).1) fallen.left))
   where
-    shortened : (first second : Holder) (w : World) → NodesRefine first second old w → CutsStandby first second w call k picks old (with_crashed_standby arrivals node' old)
-    shortened first second w stands =
+    steps : (first second : Holder) (w : World) → NodesRefine first second old w → Steps first second w (events.Crash node.Standby call k picks) true old (with_crashed_standby arrivals node' old)
+    steps first second w stands =
         let calls = w.primary.calls in
         let p = w.standby.position in
         let image = image_of node'.device.words in
         let it = fallen.falls first second w stands in
         let at = behind first second w stands in
         standby-cut old arrivals node' call k picks fallen.whole lost told first second w stands (fall-enabled call k picks stands.lives ∙ it.may) at.0 it.held.one at.1 it.held.is_one
-        (kept-down second calls at.0 node'.device (keeps-of second calls p at.0 image it.held.one at.1 it.held.keeps) fallen.settled it.lines_are) it.leaves
+        (kept-down second calls at.0 node'.device (keeps-of second calls p at.0 image it.held.one at.1 it.held.keeps) fallen.settled it.lines_are) it.leaves fallen.left
 
 -- ---- it is a primary's
 
@@ -235,18 +215,9 @@ promoted-stands {first} {second} {old} new w stands down floor ours ended unseat
     }
 
 comes-forward : (old : Pair) (node' : Node) (call : Cut) (k : ℕ) (picks : Vec ℕ Global) (new : Pair) (found : Option Record) (r : Record) → HasFallen old call k picks node'.device → Finds found node'.device → found ≡ Some r
-    → r.role ≡ role.Primary → ComesForward r.position r.epoch (record old { standby = node' }) new → Cuts old (events.Crash node.Standby call k picks) (Ok true) new
+    → r.role ≡ role.Primary → ComesForward r.position r.epoch (record old { standby = node' }) new → IsStep old (events.Crash node.Standby call k picks) (Ok true) new
 comes-forward old node' call k picks new found r fallen finds is_found own comes =
-    record {
-      came = refl;
-      did = refl;
-      shortened = shortened;
-      left = subst (λ (d : State). LeavesOf call k picks.items d (second_device new)) (sym (devices-are old fallen.whole).1)
-          (subst (λ (d : State). LeavesOf call k picks.items old.standby.device d) (sym second_is) fallen.left);
-      frames = comes.frames;
-      acknowledgements = ap (λ (acks : Vec (Vec ℕ Global) Global). acks.items) comes.told;
-      calls = comes.calls;
-    }
+    promoted-is (Ok true) refl (record { succeeds = (refl, succeeds); cut = tt; calls = comes.calls }) fallen.whole first_stays comes.frames (ap (λ (acks : Vec (Vec ℕ Global) Global). acks.items) comes.told) left-of
   where
     over : has_ended new.lives.standby ≡ true
     over = ap has_ended comes.standby
@@ -254,8 +225,11 @@ comes-forward old node' call k picks new found r fallen finds is_found own comes
     second_is : second_device new ≡ node'.device
     second_is = ap (λ b. if b then new.primary.device else new.standby.device) over ∙ comes.taken
 
-    first_is : first_device new ≡ old.primary.device
-    first_is = ap (λ b. if b then new.standby.device else new.primary.device) over ∙ comes.given
+    first_stays : first_device new ≡ first_device old
+    first_stays = ap (λ b. if b then new.standby.device else new.primary.device) over ∙ comes.given ∙ sym (devices-are old fallen.whole).0
+
+    left-of : LeavesOf call k picks.items (second_device old) (second_device new)
+    left-of = subst (λ (d : State). LeavesOf call k picks.items d (second_device new)) (sym (devices-are old fallen.whole).1) (subst (λ (d : State). LeavesOf call k picks.items old.standby.device d) (sym second_is) fallen.left)
 
     -- in each world it is that of the primary
     ahead : (first second : Holder) (w : World) → (stands : NodesRefine first second old w)
@@ -282,20 +256,25 @@ comes-forward old node' call k picks new found r fallen finds is_found own comes
         let ended = subst (λ n. ClientsRefine new.clients (map left w.primary.connections) (cut_at calls n)) here (comes.ends w (around-stands stands.parts).sessions) in
         promoted-stands new w stands fell.0 fell.1 (comes.epoch_is ∙ ap (λ (one : Record). one.epoch) told_as ∙ held.contents_at.epoch_is) ended comes.unseated comes.frames comes.lost comes.told comes.primary comes.standby comes.asked
 
-    shortened : (first second : Holder) (w : World) → NodesRefine first second old w → CutsStandby first second w call k picks old new
-    shortened first second w stands =
+    succeeds : (first second : Holder) (w : World) → NodesRefine first second old w → Succeeds second w (events.Crash node.Standby call k picks) old new
+    succeeds first second w stands =
         let it = fallen.falls first second w stands in
-        let others = torn w.standby.life ++ left_by w node.Standby call in
-        let step : Step w (events.Crash node.Standby call k picks) true (promoted w) =
-        does-step (fall-enabled call k picks stands.lives ∙ it.may) (record { remain = AsPrimary; one = subst (λ (one : Remains). Contains (may_remain w node.Standby call) one) (ahead first second w stands).0 it.held.is_one; now = refl }) in
+        let near = OpensNear second w.primary.calls w.standby.position (torn w.standby.life ++ left_by w node.Standby call) in
+        let either : Image → Type 0 = λ image. near image ⊎ OpensAt (promoted_holder second) w.primary.calls w.standby.position image in
+        let only = subst (λ (d : State). LeavesOnly d (second_device new) near) (sym (devices-are old fallen.whole).1) (subst (λ (d : State). LeavesOnly old.standby.device d near) (sym second_is) it.leaves) in
         record {
           world = promoted w;
-          step = step;
+          step = does-step (fall-enabled call k picks stands.lives ∙ it.may)
+              (record { remain = AsPrimary; one = subst (λ (one : Remains). Contains (may_remain w node.Standby call) one) (ahead first second w stands).0 it.held.is_one; now = refl });
+          position = refl;
+          calls = refl;
+          former = former_holder second;
           began = fallen.whole;
-          goes = inr (record { former = former_holder second; stands = fallen-stands first second w stands; ended = over });
-          leaves = subst (λ (d : State). LeavesOnly d (second_device new) (OpensNear second w.primary.calls w.standby.position others)) (sym (devices-are old fallen.whole).1)
-              (subst (λ (d : State). LeavesOnly old.standby.device d (OpensNear second w.primary.calls w.standby.position others)) (sym second_is) it.leaves);
-          first_stays = first_is ∙ sym (devices-are old fallen.whole).0;
+          ended = over;
+          stands = fallen-stands first second w stands;
+          first_stays = first_stays;
+          leaves = LeavesOnly-weaken either (λ image opens. inl opens) only;
+          failures = λ between. elim (cut-or-still call k picks.items (second_device old) (second_device new) left-of) [ inl inside ↦ absurd (true≢false (sym inside ∙ between)) | inr same ↦ same ];
         }
 
 -- ---- it goes by its image
@@ -306,14 +285,14 @@ which role.Standby = inr (λ is. apart is)
 which role.Newcomer = inr (λ is. cc)
 
 pub goes-by-image : (old : Pair) (node' : Node) (call : Cut) (k : ℕ) (picks : Vec ℕ Global) (new : Pair) → HasFallen old call k picks node'.device → GoesByImage (record old { standby = node' }) new
-    → Cuts old (events.Crash node.Standby call k picks) (Ok true) new
+    → IsStep old (events.Crash node.Standby call k picks) (Ok true) new
 goes-by-image old node' call k picks new fallen goes = by goes.found refl
   where
     behind : FallsBehind (record old { standby = node' }) new
         → ((first second : Holder) (w : World) → NodesRefine first second old w → KeepsPromoted second w.primary.calls w.standby.position (image_of node'.device.words) → ⊥)
-        → Cuts old (events.Crash node.Standby call k picks) (Ok true) new
+        → IsStep old (events.Crash node.Standby call k picks) (Ok true) new
     behind falls never =
-        subst (λ (pair : Pair). Cuts old (events.Crash node.Standby call k picks) (Ok true) pair) (sym falls.falls)
+        subst (λ (pair : Pair). IsStep old (events.Crash node.Standby call k picks) (Ok true) pair) (sym falls.falls)
         (stays-behind old new.wire.arrivals node' call k picks fallen falls.lost falls.told
         (λ first second w stands.
         let held = (fallen.falls first second w stands).held in
@@ -324,7 +303,7 @@ goes-by-image old node' call k picks new fallen goes = by goes.found refl
     finds first second w stands held =
         finds-kept (promoted_holder second) w.primary.calls w.standby.position goes.found node'.device goes.finds (fallen.falls first second w stands).lines_are held
 
-    by : (found : Option Record) → goes.found ≡ found → Cuts old (events.Crash node.Standby call k picks) (Ok true) new
+    by : (found : Option Record) → goes.found ≡ found → IsStep old (events.Crash node.Standby call k picks) (Ok true) new
     by None is = behind (goes.none is) (λ first second w stands held. none_found goes.found held.kept.contents.current is (finds first second w stands held.kept))
     by (Some r) is = elim (which r.role) [
       | inl own ↦ comes-forward old node' call k picks new goes.found r fallen goes.finds is own (goes.serving r is own)

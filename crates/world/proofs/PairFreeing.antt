@@ -1,60 +1,33 @@
 -- What freeing a list does to the pair, of what it does to its parts.
-use Rattle.std.proofs.Common.{rules, ◌≡◌, ◌⊎◌, ◌-◌, ◌<◌, ◌≤◌, inl, inr, Bool, true, false, cond, List, ◌∷◌, ◌++◌, length, drop, Result, Ok, Err, refl, sym, ap, subst, ◌∙◌, arith, length-append, true≢false, []}
-use Rattle.kv_types.specs.declared.refusal.Refusal.{Refusal}
-use Rattle.kv_types.specs.declared.refusal.Refusal.TheVariants.{Memory, Exhausted, Fault}
-use Rattle.std.proofs.Math.Nat.{le-max_left, le-max_right}
-use Rattle.pmem.specs.Crash.{IsImage}
-use Rattle.pmem.specs.Device.{State}
-use Rattle.pmem.specs.Runs.{LeavesOnly}
-use Rattle.pmem.proofs.Leaving.{LeavesOnly-weaken, none_leaves}
-use Rattle.model.specs.declared.call.Call.{Call}
-use Rattle.model.specs.declared.group.Group.{Group}
-use Rattle.model.specs.declared.record.Record.{Record}
-use Rattle.model.specs.declared.work.FreeList.{FreeList}
-use Rattle.model.specs.declared.work.Work.{Work}
-use Rattle.model.specs.Floor.{floor_raised}
-use Rattle.model.specs.Group.{AreEnded, Contents, after_free, without}
-use Rattle.model.specs.Image.{Image}
-use Rattle.model.specs.Standing.{Holder}
-use Rattle.wbl_engine.specs.declared.freeing.Freed.{Freed}
-use Rattle.model.proofs.RecordLemmas.{HasRecord-lines}
-use Rattle.wbl_engine.specs.Freeing.{KeepsFreed, KeepsWithoutSome}
-use Rattle.wbl_engine.specs.Raising.{ExhaustsRaising}
-use Rattle.wbl_engine.proofs.WithoutLemmas.{AllEnded, lawful_without}
-use Rattle.pipes.specs.Waiting.{Waiting}
-use Rattle.group_commit.specs.Due.{due_now, left_by}
+use Rattle.std.proofs.Common.{rules, ◌≡◌, ◌⊎◌, ◌-◌, ◌+◌, ◌<◌, ◌≤◌, inl, inr, Bool, true, false, cond, List, ◌∷◌, ◌++◌, length, drop, Result, Ok, Err, refl, sym, ap, subst, ◌∙◌, arith, length-append, true≢false, []}
+use Rattle.world.specs.Words.{after_free, AreEnded, AreWorkOf, Call, Committer, Contents, Done, due_now, Event, Exhausted, ExhaustsRaising, Fault, floor_raised, Freed, FreeList, Group, has_room, Holder, Image, IsImage, KeepsFreed, LeavesOnly, MachineWork, may_happen, Memory, notices_of, positions_of_lists, reached_lists, Record, Refusal, Remembers, Stage, State, Waiting, without, Work, World, COUNTER_LIMIT}
+use Rattle.world.proofs.Words.{AllEnded, AllEnded-listed, HasRecord-lines, laid-engine, lawful_raised, lawful_without, le-max_left, leads_renumbered, LeavesOnly-weaken, none_leaves, Same-is}
+use Rattle.std.proofs.Math.Nat.{le-max_right}
+use Rattle.model.specs.declared.record.Role.TheVariants as role
+use Rattle.wbl_engine.specs.Freeing.{KeepsWithoutSome}
+use Rattle.group_commit.specs.Due.{left_by}
 use Rattle.group_commit.specs.Working.{FreesReached, entries_of_lists}
-use Rattle.group_commit.specs.declared.committer.Committer.{Committer}
 use Rattle.group_commit.specs.declared.due.Due.TheVariants as due
-use Rattle.group_commit.specs.declared.stage.Done.{Done}
-use Rattle.group_commit.specs.declared.stage.Stage.{Stage}
 use Rattle.group_commit.proofs.DueLemmas.{FreeIsDue, free-now}
-use Rattle.group_commit.proofs.FreedLemmas.{AllEnded-listed, AreEnded-first}
-use Rattle.group_commit.proofs.GroupsLemmas.{Same-is}
+use Rattle.group_commit.proofs.FreedLemmas.{AreEnded-first}
 use Rattle.machine.specs.declared.event.Cut.TheVariants as cut
-use Rattle.machine.specs.declared.event.Event.{Event}
 use Rattle.machine.specs.declared.event.Event.TheVariants as events
-use Rattle.machine.specs.Event.{Work as MachineWork, World, has_room, may_happen, reached_lists}
 use Rattle.machine.specs.Event as machine
 use Rattle.world.specs.Cause.{Breaks, EndsBy, IsAtLimit, Resting, RestsAtLimit, asks_memory}
 use Rattle.world.specs.Committing.{CommittingRefines, Leads, OpensAt, StageRefines, link_has_room, next_primary, reached_now}
-use Rattle.node_steps.specs.GroupSpan.{AreWorkOf, positions_of_lists}
 use Rattle.world.specs.Pair.{Does, FreeingRefines, IsCut, Pair, PairRefines, PartsRefine}
 use Rattle.world.specs.Effect.{FreesOldest}
-use Rattle.primary.specs.Recalling.{Remembers}
 use Rattle.primary.proofs.KeptTurns.{remembers-reached}
 use Rattle.primary.proofs.RecallLemmas.{recalls-without, remembers-freed}
 use Rattle.primary.proofs.RecallParts.{recalls-more}
 use Rattle.world.specs.Recalling.{RemembersFor, past_of}
 use Rattle.primary.specs.Leading.{AreLaid}
-use Rattle.primary.specs.Standing.{notices_of}
-use Rattle.primary.proofs.AheadLemmas.{laid-engine}
-use Rattle.primary.proofs.NumberedLemmas.{consistent_renumbered, laid_renumbered, lawful_raised, leads_renumbered}
+use Rattle.primary.proofs.NumberedLemmas.{consistent_renumbered, laid_renumbered}
 use Rattle.primary.proofs.FreedQueue.{Leads-freed}
 use Rattle.primary.proofs.TurnedLemmas.{Leads-reached}
 use Rattle.world.proofs.LivesLemmas.{enabled-is, is_own, nodes-refine, own-runs}
 use Rattle.world.proofs.EngineLemmas.{Opens-engine}
-use Rattle.world.proofs.PairLemmas.{Led, cut-for, cut-same, none-added, rests-running, rests-standby, stays-does, tells}
+use Rattle.world.proofs.PairLemmas.{Led, cut-for, cut-same, rests-running, rests-standby, stays-does, tells, steps-only, cut-only}
 use Rattle.world.proofs.QueueLemmas.{free-disabled, free-enabled, reached-positions, room-link}
 use Rattle.world.proofs.PairTurns.{Took, Waiting-same, pair_of, pair_with}
 use Rattle.world.proofs.FreeingLemmas.{contents-raised, contents-without, engine-freed, freed-moments, primary-limit, primary-steps, raising-limit, stays-near}
@@ -88,13 +61,9 @@ module _ {E : Type 0} (device : E → State) (contents : E → Contents) (is_fau
       → ((first second : Holder) (w : World) → PairRefines first second (freed_of before waiting handed) w → may_happen w event ≡ true)
       → Does (freed_of before waiting handed) event (Err refusal) (freed_with after waiting' notices' handed')
   refused-does event own asks before after waiting waiting' notices' handed handed' refusal memory same enabled =
-      record {
-        steps = tt;
-        cut = λ first second w stands.
-            cut-same first second event refusal (freed_of before waiting handed) (freed_with after waiting' notices' handed') w asks memory (ap device same) refl (tells pair.clients.transcript) refl
-            (own-runs stands event own) (enabled first second w stands) (nodes-refine stands);
-        calls = none-added _ _ refl;
-      }
+      cut-only (λ first second w stands.
+      cut-same first second event refusal (freed_of before waiting handed) (freed_with after waiting' notices' handed') w asks memory (ap device same) refl (tells pair.clients.transcript) refl
+      (own-runs stands event own) (enabled first second w stands) (nodes-refine stands)) refl
 
   -- a fence of the engine's device failed
   pub fault-does : (event : Event) → is_own event ≡ true → (before after : Committer E) (waiting waiting' : Waiting Work) (handed : Waiting Group) (refusal : Refusal)
@@ -105,7 +74,7 @@ module _ {E : Type 0} (device : E → State) (contents : E → Contents) (is_fau
       → ((first second : Holder) (w : World) → PartsRefine first second (freed_of before waiting handed) w
       → LeavesOnly (device before.engine) (device after.engine) (OpensAt first w.primary.calls w.primary.committer.position))
       → Does (freed_of before waiting handed) event (Err refusal) (freed_of after waiting' handed)
-  fault-does event own before after waiting waiting' handed refusal fault breaks fails enabled moments = record { steps = tt; cut = cut; calls = none-added _ _ refl }
+  fault-does event own before after waiting waiting' handed refusal fault breaks fails enabled moments = cut-only cut refl
     where
       old : Pair
       old = freed_of before waiting handed
@@ -124,6 +93,32 @@ module _ {E : Type 0} (device : E → State) (contents : E → Contents) (is_fau
           cut-for first second event refusal old new w (nodes-refine stands) (tells pair.clients.transcript) refl (enabled-is (own-runs stands event own) ∙ enabled first second w stands)
           (subst (λ (r : Refusal). EndsBy r event (Led first second old new w)) (sym fault)
           (breaks first second w old new (inl (record { leaves = leaves; failures = failed }), rests-standby first second old w (nodes-refine stands))))
+
+  -- a counter of the engine's record is at its limit, and the engine was not touched
+  pub limit-does : (event : Event) → is_own event ≡ true → (before after : Committer E) (waiting waiting' : Waiting Work) (handed : Waiting Group) (refusal : Refusal) → refusal ≡ Exhausted
+      → ((first second : Holder) (w : World) (old new : Pair) → Led first second old new w RestsAtLimit Resting → EndsBy Exhausted event (Led first second old new w))
+      → (COUNTER_LIMIT ≤ (contents before.engine).current.number + 1) ⊎ ((contents before.engine).current.role ≡ role.Newcomer) → after.engine ≡ before.engine
+      → ((first second : Holder) (w : World) → PairRefines first second (freed_of before waiting handed) w → may_happen w event ≡ true)
+      → Does (freed_of before waiting handed) event (Err refusal) (freed_of after waiting' handed)
+  limit-does event own before after waiting waiting' handed refusal limit ends full same enabled = cut-only cut refl
+    where
+      old : Pair
+      old = freed_of before waiting handed
+
+      new : Pair
+      new = freed_of after waiting' handed
+
+      cut : (first second : Holder) (w : World) → PairRefines first second old w → IsCut first second event refusal old new w
+      cut first second w stands =
+          let still : new.primary.device ≡ old.primary.device = ap device same in
+          let at : (image : Image) → IsImage old.primary.device.words image → IsAtLimit first.lines (next_primary w - w.primary.committer.position) (next_primary w - w.primary.committer.position) image =
+          λ image is. record { current = old.primary.contents.current; has_record = HasRecord-lines stands.parts.engine.contents_at.lines_are (stands.parts.engine.durable image is).has_record; reached = inr (inr (primary-limit old.primary.contents.current (stands.parts.engine.contents_at.role_is ∙ (nodes-refine stands).lives.first_role) full)) } in
+          cut-for first second event refusal old new w (nodes-refine stands) (tells pair.clients.transcript) refl (enabled-is (own-runs stands event own) ∙ enabled first second w stands)
+          (subst (λ (r : Refusal). EndsBy r event (Led first second old new w)) (sym limit)
+          (ends first second w old new (
+            inl (subst (λ (d : State). RestsAtLimit first w.primary.calls w.primary.committer.position (next_primary w) old.primary.device d) (sym still) (record { rests = rests-running first second old w stands.parts; limit = at })),
+            rests-standby first second old w (nodes-refine stands),
+          )))
 
   -- ---- a list is freed
 
@@ -255,41 +250,23 @@ module _ {E : Type 0} (device : E → State) (contents : E → Contents) (is_fau
           )
 
       freed-does : (ok : Done) (frees : Frees after waiting' (Ok ok)) → Does old events.Free (Ok true) (freed_with after waiting' (pair.primary.notices ++ frees.frees.answer.0 ∷ []) handed)
-      freed-does ok frees = record {
-        steps = λ first second w stands.
-            primary-steps events.Free first second w (machine.freed w) old (freed_with after waiting' (pair.primary.notices ++ frees.frees.answer.0 ∷ []) handed) refl
-            (record { allowed = refl; primary_disk = refl; standby_disk = refl; primary = refl; standby = refl; role = refl; epoch = refl })
-            stands refl refl frees.frees.sound.1 (inl refl)
-            (sym (free_may first second w stands))
-            (stays-near first w.primary.calls w.primary.committer.position w.primary.committer.position (device before.engine) (device after.engine) (moments-then (Ok ok) frees first second w stands.parts))
-            (free-parts ok frees first second w stands);
-        cut = tt;
-        calls = none-added _ _ refl;
-      }
+      freed-does ok frees = steps-only (λ first second w stands.
+          primary-steps events.Free first second w (machine.freed w) old (freed_with after waiting' (pair.primary.notices ++ frees.frees.answer.0 ∷ []) handed) refl
+          (record { allowed = refl; primary_disk = refl; standby_disk = refl; primary = refl; standby = refl; role = refl; epoch = refl })
+          stands refl refl frees.frees.sound.1 (inl refl)
+          (sym (free_may first second w stands))
+          (stays-near first w.primary.calls w.primary.committer.position w.primary.committer.position (device before.engine) (device after.engine) (moments-then (Ok ok) frees first second w stands.parts))
+          (free-parts ok frees first second w stands)) refl
 
       broke-does : (refusal : Refusal) → Frees after waiting' (Err refusal) → Does old events.Free (Err refusal) (freed_of after waiting' handed)
       broke-does refusal frees = elim frees.frees.causes [
         | inl fault ↦ fault-does events.Free refl before after waiting waiting' handed refusal fault (λ first second w old' new leads. leads) (frees.frees.fault (ap Err fault)) free_may
             (moments-then (Err refusal) frees)
-        | inr (inl limit) ↦ record { steps = tt; cut = λ first second w stands. ends first second w stands limit; calls = none-added _ _ refl }
+        | inr (inl limit) ↦
+            let told = frees.frees.exhausted (ap Err limit) in
+            limit-does events.Free refl before after waiting waiting' handed refusal limit (λ first second w old' new leads. leads) told.0.1 told.1 free_may
         | inr (inr memory) ↦ refused-does events.Free refl refl before after waiting waiting' pair.primary.notices handed handed refusal memory (frees.frees.memory (ap Err memory)) free_may
       ]
-        where
-          new : Pair
-          new = freed_of after waiting' handed
-
-          ends : (first second : Holder) (w : World) → PairRefines first second old w → refusal ≡ Exhausted → IsCut first second events.Free refusal old new w
-          ends first second w stands limit =
-              let told = frees.frees.exhausted (ap Err limit) in
-              let same : new.primary.device ≡ old.primary.device = ap device told.1 in
-              let at : (image : Image) → IsImage old.primary.device.words image → IsAtLimit first.lines (next_primary w - w.primary.committer.position) (next_primary w - w.primary.committer.position) image =
-              λ image is. record { current = old.primary.contents.current; has_record = HasRecord-lines stands.parts.engine.contents_at.lines_are (stands.parts.engine.durable image is).has_record; reached = inr (inr (primary-limit old.primary.contents.current (stands.parts.engine.contents_at.role_is ∙ (nodes-refine stands).lives.first_role) told.0.1)) } in
-              cut-for first second events.Free refusal old new w (nodes-refine stands) (tells pair.clients.transcript) refl (enabled-is (own-runs stands events.Free refl) ∙ free_may first second w stands)
-              (subst (λ (r : Refusal). EndsBy r events.Free (Led first second old new w)) (sym limit) (
-                inl (subst (λ (d : State). RestsAtLimit first w.primary.calls w.primary.committer.position (next_primary w) old.primary.device d) (sym same)
-                    (record { rests = rests-running first second old w stands.parts; limit = at })),
-                rests-standby first second old w (nodes-refine stands),
-              ))
 
       -- it did so, and tells of that
       pub free-done : (handed' : Waiting Group) (answer : Done) → Took device contents is_faulted due.Free (link_has_room handed.items) pair.wire.remote before waiting handed (Ok answer) after waiting' handed'

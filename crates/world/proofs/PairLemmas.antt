@@ -1,47 +1,31 @@
 -- What each event does to a pair whose primary runs, of what it does to its parts.
 use Rattle.std.proofs.Common.{rules, ◌≡◌, inl, inr, ℕ, ◌≤◌, Bool, true, false, List, ◌∷◌, ◌++◌, length, slice_index_or, Result, Ok, Err, IfOk, IfErr, OnErr, Vec, Global, refl, sym, ap, ap₂, subst, ◌∙◌, arith, le_refl, true≢false, []}
-use Rattle.std.proofs.lemmas.List.{length-map}
-use Rattle.kv_types.specs.declared.refusal.Refusal.{Refusal}
-use Rattle.kv_types.specs.declared.refusal.Refusal.TheVariants.{Memory}
-use Rattle.model.specs.declared.call.Call.{Call}
-use Rattle.model.specs.Call.{position_of}
-use Rattle.model.specs.Standing.{Holder}
-use Rattle.redis_core.specs.Sequencing.{Sequencing}
-use Rattle.machine.specs.declared.event.Event.{Event}
+use Rattle.world.specs.Words.{AddsOne, Call, called, Connection, Connections, Event, Goes, Happens, Holder, is_enabled, left, Mark, may_happen, Memory, position_of, reach, Refusal, Remains, seats_of, SeatsFollow, SequencerRefines, Sequencing, Sound, StandsOver, Step, torn, Transcript, with_outbound, World}
+use Rattle.world.proofs.Words.{chain-le, EngineStands-grows, laid-engine, length-map, length-released, released-told, sound-step}
 use Rattle.machine.specs.declared.event.Event.TheVariants as events
-use Rattle.machine.specs.declared.event.Mark.{Mark}
-use Rattle.machine.specs.Connection.{having_seen, is_open_at, may_enter, with_outbound}
-use Rattle.machine.specs.Event.{Connection, Remains, World, reach, Happens, Step, Turns, changed_at, left, new_connection, is_enabled, may_happen, called, torn, with_connections}
+use Rattle.machine.specs.declared.event.Node.TheVariants as node
+use Rattle.machine.specs.Connection.{having_seen, is_open_at, may_enter}
+use Rattle.machine.specs.Event.{Turns, changed_at, new_connection, with_connections}
 use Rattle.machine.proofs.SoundConnection.{reach-low, uncalled}
-use Rattle.machine.specs.Sound.{Sound}
-use Rattle.machine.proofs.GroupLemmas.{chain-le}
-use Rattle.machine.proofs.SoundEvents.{sound-step}
-use Rattle.connections.specs.Going.{Goes}
 use Rattle.world.specs.Cause.{OrLies, Stretch, EndsBy, asks_memory, Resting}
 use Rattle.world.specs.Committing.{Rests, next_primary, next_standby}
-use Rattle.world.specs.Remaining.{Remain, MovesNear}
-use Rattle.connections.specs.Session.{IsListOf, SequencerRefines, SeatsFollow, KeepsSeats, AddsOne, StandsStill, TakesTurn, TellsTheSame, seats_of}
-use Rattle.world.specs.Pair.{Clients, ClientsRefine, HasStandby, Pair, EitherRefines, NodesRefine, PartsRefine, PairRefines, IsCut, MovesBoth, Steps, Does, AreLives}
+use Rattle.world.specs.Remaining.{MovesAs, MovesNear, Remain}
+use Rattle.connections.specs.Session.{IsListOf, KeepsSeats, StandsStill, TakesTurn, TellsTheSame}
+use Rattle.world.specs.Pair.{DoesTo, ToldAs, Clients, ClientsRefine, HasStandby, Pair, EitherRefines, NodesRefine, PartsRefine, PairRefines, IsCut, MovesBoth, Steps, Does, AreLives}
 use Rattle.world.specs.Standby.{Node, StandbyRefines}
 use Rattle.world.proofs.AroundLemmas.{around-stands, around-clients, around-grows}
 use Rattle.world.proofs.LivesLemmas.{Runs, enabled-is, is_own, is_plain, lives-step, nodes-refine, own-runs}
-use Rattle.primary.specs.Standing.{StandsOver}
-use Rattle.primary.proofs.AheadLemmas.{laid-engine}
-use Rattle.connections.specs.declared.connections.Connections.{Connections}
-use Rattle.connections.specs.declared.transcript.Transcript.{Transcript}
 use Rattle.world.specs.Step.{IsRoomier}
-use Rattle.connections.proofs.SessionLemmas.{length-released, released-told}
 use Rattle.connections.proofs.SeatLemmas.{follow-kept}
 use Rattle.connections.proofs.SequencerLemmas.{still-same}
 use Rattle.node_steps.proofs.StillLemmas.{freeing-still, leads-still}
-use Rattle.world.proofs.RecallLemmas.{remembered-from, remembered-on}
+use Rattle.world.proofs.RecallLemmas.{remembered-from, remembered-on, opening-still}
 use Rattle.world.specs.Recalling.{past_of}
 use Rattle.node_steps.proofs.RecallLemmas.{remembers-still}
-use Rattle.world.proofs.OpeningLemmas.{opening-still}
-use Rattle.node_steps.proofs.EngineLemmas.{EngineStands-grows}
 use Rattle.world.proofs.EngineLemmas.{Opens-engine, rests-same}
-use Rattle.world.proofs.RemainLemmas.{keeps-near, left-near, lies-still, near-rest, remain-from}
-use Rattle.node_steps.proofs.CommittingLemmas.{CommittingRefines-grows}
+use Rattle.world.proofs.DeviceLemmas.{on-near, on-still}
+use Rattle.world.proofs.RemainLemmas.{keeps-near, left-near, lies-still, remain-from}
+use Rattle.world.proofs.CommittingLemmas.{CommittingRefines-grows}
 use Rattle.world.proofs.LinkLemmas.{LinkRefines-grows}
 use Rattle.world.proofs.DownLemmas.{Opens-down}
 use Rattle.world.specs.Condition.{has_ended, runs}
@@ -89,32 +73,40 @@ asked-either first second pair fences w parts = elim parts [
 
 -- ---- steps
 
--- neither device was touched
-pub untouched : (first second : Holder) (old new : Pair) (w w' : World) → new.primary.device ≡ old.primary.device → new.standby.device ≡ old.standby.device → EitherRefines first second old w → MovesBoth first second old new w w'
-untouched first second old new w w' device device' parts =
-    record {
-      primary = near-rest first w.primary.calls w.primary.committer.position w'.primary.committer.position (torn w.primary.life) old.primary.device new.primary.device device (primary-stands first second old w parts);
-      standby = λ whole. near-rest second w.primary.calls w.standby.position w'.standby.position (torn w.standby.life) old.standby.device new.standby.device device' (standby-stands first second old w parts whole);
-    }
+-- the primary's device was moved, and the standby's was not touched
+pub moved-primary : {event : Event} (first second : Holder) (old new : Pair) (w w' : World) → EitherRefines first second old w → new.standby.device ≡ old.standby.device
+    → MovesAs first w event w' node.Primary old.primary.device new.primary.device → MovesBoth first second event old new w w'
+moved-primary {event} first second old new w w' parts same moves =
+    record { primary = moves; standby = λ whole. on-still second w event w' node.Standby old.standby.device new.standby.device (standby-stands first second old w parts whole) same }
 
--- the primary's was moved, and the standby's was not touched
-pub moves-primary : (first second : Holder) (old new : Pair) (w w' : World) → EitherRefines first second old w → new.standby.device ≡ old.standby.device
-    → MovesNear first w.primary.calls w.primary.committer.position w'.primary.committer.position (torn w.primary.life) old.primary.device new.primary.device → MovesBoth first second old new w w'
-moves-primary first second old new w w' parts same moves =
-    record { primary = moves; standby = λ whole. near-rest second w.primary.calls w.standby.position w'.standby.position (torn w.standby.life) old.standby.device new.standby.device same (standby-stands first second old w parts whole) }
+-- neither was touched
+pub untouched : {event : Event} (first second : Holder) (old new : Pair) (w w' : World) → new.primary.device ≡ old.primary.device → new.standby.device ≡ old.standby.device → EitherRefines first second old w
+    → MovesBoth first second event old new w w'
+untouched {event} first second old new w w' device device' parts =
+    moved-primary first second old new w w' parts device' (on-still first w event w' node.Primary old.primary.device new.primary.device (primary-stands first second old w parts) device)
+
+pub moves-primary : {event : Event} (first second : Holder) (old new : Pair) (w w' : World) → EitherRefines first second old w → new.standby.device ≡ old.standby.device
+    → MovesNear first w.primary.calls w.primary.committer.position w'.primary.committer.position (torn w.primary.life) old.primary.device new.primary.device → MovesBoth first second event old new w w'
+moves-primary {event} first second old new w w' parts same moves =
+    moved-primary first second old new w w' parts same (on-near first w event w' node.Primary old.primary.device new.primary.device moves)
 
 -- the standby's was, and the primary's was not
-pub moves-standby : (first second : Holder) (old new : Pair) (w w' : World) → EitherRefines first second old w → new.primary.device ≡ old.primary.device
-    → (HasStandby old → MovesNear second w.primary.calls w.standby.position w'.standby.position (torn w.standby.life) old.standby.device new.standby.device) → MovesBoth first second old new w w'
-moves-standby first second old new w w' parts same moves =
-    record { primary = near-rest first w.primary.calls w.primary.committer.position w'.primary.committer.position (torn w.primary.life) old.primary.device new.primary.device same (primary-stands first second old w parts); standby = moves }
+pub moved-standby : {event : Event} (first second : Holder) (old new : Pair) (w w' : World) → EitherRefines first second old w → new.primary.device ≡ old.primary.device
+    → (HasStandby old → MovesAs second w event w' node.Standby old.standby.device new.standby.device) → MovesBoth first second event old new w w'
+moved-standby {event} first second old new w w' parts same moves =
+    record { primary = on-still first w event w' node.Primary old.primary.device new.primary.device (primary-stands first second old w parts) same; standby = moves }
+
+pub moves-standby : {event : Event} (first second : Holder) (old new : Pair) (w w' : World) → EitherRefines first second old w → new.primary.device ≡ old.primary.device
+    → (HasStandby old → MovesNear second w.primary.calls w.standby.position w'.standby.position (torn w.standby.life) old.standby.device new.standby.device) → MovesBoth first second event old new w w'
+moves-standby {event} first second old new w w' parts same moves =
+    moved-standby first second old new w w' parts same (λ whole. on-near second w event w' node.Standby old.standby.device new.standby.device (moves whole))
 
 -- an event that was enabled
 pub does-step : {w w' : World} {event : Event} → is_enabled w event ≡ true → Happens w event w' → Step w event true w'
 does-step enabled happens = record { done = sym enabled; happens = λ did. happens; stands = λ did. absurd (true≢false did) }
 
 pub steps-to : {first second : Holder} {w : World} {event : Event} {old new : Pair} (w' : World) → NodesRefine first second old w → Step w event true w' → AreLives first second new.lives w' → EitherRefines first second new w'
-    → MovesBoth first second old new w w' → Steps first second w event true old new
+    → MovesBoth first second event old new w w' → Steps first second w event true old new
 steps-to {first} {second} {w} {event} w' stands step lives parts moves =
     record { world = w'; step = step; stands = record { sound = sound-step w event true w' step stands.sound; lives = lives; parts = parts }; moves = moves }
 
@@ -162,21 +154,37 @@ Led first second old new w first_last second_last =
     OrLies first_last first w.primary.calls w.primary.committer.position (next_primary w) (torn w.primary.life) old.primary.device new.primary.device
     × (HasStandby old → OrLies second_last second w.primary.calls w.standby.position (next_standby w) (torn w.standby.life) old.standby.device new.standby.device)
 
+-- what it tells
+pub told-as : {first second : Holder} {pair : Pair} {w : World} → EitherRefines first second pair w → ToldAs pair.clients.transcript w
+told-as {first} {second} {pair} {w} parts =
+    let told = (around-stands parts).sessions.told in
+    record {
+      calls = told.calls_are;
+      released = λ c. released-told w.primary.calls pair.clients.transcript w.primary.connections told c;
+      count = omega (
+        arith,
+        length-released w.primary.calls pair.clients.transcript w.primary.connections told,
+        length-map pair.clients.transcript.released.items (λ (bytes : Vec ℕ Global). bytes.items),
+      );
+    }
+
 pub cut-for : (first second : Holder) (event : Event) (refusal : Refusal) (old new : Pair) (w : World) → NodesRefine first second old w → TellsTheSame old.clients.transcript new.clients.transcript
     → has_ended new.lives.standby ≡ has_ended old.lives.standby → is_enabled w event ≡ true → EndsBy refusal event (Led first second old new w) → IsCut first second event refusal old new w
 cut-for first second event refusal old new w stands same nodes enabled cause =
-    let told = (around-stands stands.parts).sessions.told in
+    let told = told-as stands.parts in
     record {
       enabled = enabled;
-      calls = same.calls ∙ told.calls_are;
-      released = λ c. ap (λ (all : List (List ℕ)). slice_index_or all c []) same.released ∙ released-told w.primary.calls old.clients.transcript w.primary.connections told c;
-      count = omega (
-        arith,
-        length-released w.primary.calls old.clients.transcript w.primary.connections told,
-        ap length same.released,
-        length-map old.clients.transcript.released.items (λ (bytes : Vec ℕ Global). bytes.items),
-        length-map new.clients.transcript.released.items (λ (bytes : Vec ℕ Global). bytes.items),
-      );
+      told = record {
+        calls = same.calls ∙ told.calls;
+        released = λ c. ap (λ (all : List (List ℕ)). slice_index_or all c []) same.released ∙ told.released c;
+        count = omega (
+          arith,
+          told.count,
+          ap length same.released,
+          length-map old.clients.transcript.released.items (λ (bytes : Vec ℕ Global). bytes.items),
+          length-map new.clients.transcript.released.items (λ (bytes : Vec ℕ Global). bytes.items),
+        );
+      };
       standby = nodes;
       cause = cause;
     }
@@ -203,15 +211,20 @@ tells transcript = record { calls = refl; released = refl }
 pub none-added : (old new : Vec Call Global) → new ≡ old → AddsOne old new
 none-added old new same = subst (AddsOne old) (sym same) (record { one = omega arith; room = refl })
 
+-- it was a step alone, or was cut, and called nothing
+pub steps-only : {Refines : Holder → Holder → Pair → World → Type 0} {old new : Pair} {event : Event} {did : Bool} → ((first second : Holder) (w : World) → Refines first second old w → Steps first second w event did old new)
+    → new.clients.transcript.calls ≡ old.clients.transcript.calls → DoesTo Refines old event (Ok did) new
+steps-only steps same = record { steps = steps; cut = tt; calls = none-added _ _ same }
+
+pub cut-only : {Refines : Holder → Holder → Pair → World → Type 0} {old new : Pair} {event : Event} {refusal : Refusal} → ((first second : Holder) (w : World) → Refines first second old w → IsCut first second event refusal old new w)
+    → new.clients.transcript.calls ≡ old.clients.transcript.calls → DoesTo Refines old event (Err refusal) new
+cut-only cut same = record { steps = tt; cut = cut; calls = none-added _ _ same }
+
 -- ---- an event that is not enabled
 
 pub stays-does : (old : Pair) (event : Event) → is_own event ≡ true → ((first second : Holder) (w : World) → PairRefines first second old w → false ≡ may_happen w event) → Does old event (Ok false) old
 stays-does old event own never =
-    record {
-      steps = λ first second w stands. steps-none (nodes-refine stands) (enabled-is (own-runs stands event own) ∙ sym (never first second w stands)) (nodes-refine stands) refl refl;
-      cut = tt;
-      calls = none-added _ _ refl;
-    }
+    steps-only (λ first second w stands. steps-none (nodes-refine stands) (enabled-is (own-runs stands event own) ∙ sym (never first second w stands)) (nodes-refine stands) refl refl) refl
 
 -- ---- what the connections do
 
@@ -288,13 +301,9 @@ pub sessions-do : (event : Event) (enabled : List Connection → Bool) (change :
 sessions-do event enabled change is asks old clients (Ok did) go same memory may keeps calls =
     record { steps = sessions-steps event enabled change is old clients did go keeps; cut = tt; calls = none-added _ _ calls }
 sessions-do event enabled change is asks old clients (Err refusal) go same memory may keeps calls =
-    record {
-      steps = tt;
-      cut = λ first second w stands.
-          cut-same first second event refusal old (with_clients clients old) w asks memory refl refl same refl (own-runs stands event is.own)
-          (is.may w ∙ may w.primary.connections w.primary.calls stands.parts.sessions) (nodes-refine stands);
-      calls = none-added _ _ calls;
-    }
+    cut-only (λ first second w stands.
+    cut-same first second event refusal old (with_clients clients old) w asks memory refl refl same refl (own-runs stands event is.own)
+    (is.may w ∙ may w.primary.connections w.primary.calls stands.parts.sessions) (nodes-refine stands)) calls
 
 -- an event that cannot be refused
 pub sessions-did : (event : Event) (enabled : List Connection → Bool) (change : List Connection → List Connection) → IsOfConnections event enabled change
@@ -308,7 +317,7 @@ pub read-does : (c : ℕ) (mark : Mark) (local remote : ℕ) (old : Pair) (sessi
     → SessionsGo (λ machines. is_open_at machines c) (changed_at c (with_outbound (having_seen mark (record { local = local; remote = remote })))) did old.clients (of_sessions sessions old.clients)
     → KeepsSeats old.clients.sessions.connections.items sessions.connections.items → Does old (events.Read c mark) (Ok did) (with_clients (of_sessions sessions old.clients) old)
 read-does c mark local remote old sessions did local_is remote_is go keeps =
-    record { steps = steps; cut = tt; calls = none-added _ _ refl }
+    (steps-only steps refl)
   where
     new : Clients
     new = of_sessions sessions old.clients
@@ -430,19 +439,11 @@ pub enter-does : (old : Pair) (clients : Clients) (sequencer : Sequencing) (resu
     → OnErr result ((machines : List Connection) (list : List Call) → ClientsRefine old.clients machines list → may_enter machines ≡ true)
     → clients.transcript.calls ≡ old.clients.transcript.calls → Does old events.Enter result (with_turn clients sequencer old)
 enter-does old clients sequencer (Ok did) go follows sequencer_stands still same memory enabled calls =
-    record {
-      steps = seats-steps events.Enter may_enter (λ machines. machines ++ new_connection ∷ []) (record { own = refl; plain = refl; may = λ w. refl; happens = λ w. refl }) old clients sequencer did go follows sequencer_stands still;
-      cut = tt;
-      calls = none-added _ _ calls;
-    }
+    steps-only (seats-steps events.Enter may_enter (λ machines. machines ++ new_connection ∷ []) (record { own = refl; plain = refl; may = λ w. refl; happens = λ w. refl }) old clients sequencer did go follows sequencer_stands still) calls
 enter-does old clients sequencer (Err refusal) go follows sequencer_stands still same memory enabled calls =
-    record {
-      steps = tt;
-      cut = λ first second w stands.
-          cut-same first second events.Enter refusal old (with_turn clients sequencer old) w refl memory refl refl same refl (own-runs stands events.Enter refl)
-          (enabled w.primary.connections w.primary.calls stands.parts.sessions) (nodes-refine stands);
-      calls = none-added _ _ calls;
-    }
+    cut-only (λ first second w stands.
+    cut-same first second events.Enter refusal old (with_turn clients sequencer old) w refl memory refl refl same refl (own-runs stands events.Enter refl)
+    (enabled w.primary.connections w.primary.calls stands.parts.sessions) (nodes-refine stands)) calls
 
 pub leave-does : (old : Pair) (sessions : Connections) (sequencer : Sequencing) (c : ℕ) (did : Bool)
     → SessionsGo (λ machines. is_open_at machines c) (changed_at c left) did old.clients (of_sessions sessions old.clients)
@@ -452,9 +453,5 @@ pub leave-does : (old : Pair) (sessions : Connections) (sequencer : Sequencing) 
     → StandsStill old.primary.sequencer sequencer
     → Does old (events.Leave c) (Ok did) (with_turn (of_sessions sessions old.clients) sequencer old)
 leave-does old sessions sequencer c did go follows sequencer_stands still =
-    record {
-      steps = seats-steps (events.Leave c) (λ machines. is_open_at machines c) (changed_at c left) (record { own = refl; plain = refl; may = λ w. refl; happens = λ w. refl }) old (of_sessions sessions old.clients) sequencer did go
-          (λ machines list is stand follow. follows machines list stand follow) sequencer_stands still;
-      cut = tt;
-      calls = none-added _ _ refl;
-    }
+    steps-only (seats-steps (events.Leave c) (λ machines. is_open_at machines c) (changed_at c left) (record { own = refl; plain = refl; may = λ w. refl; happens = λ w. refl }) old (of_sessions sessions old.clients) sequencer did go
+    (λ machines list is stand follow. follows machines list stand follow) sequencer_stands still) refl

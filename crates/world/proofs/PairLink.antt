@@ -1,28 +1,12 @@
 -- What the events of the link and its acknowledgements do to the pair, of what they do to its parts.
 use Rattle.std.proofs.Common.{rules, ◌≡◌, inl, ℕ, ◌≤◌, max, Bool, true, false, nat_eq, nat_le, nat_lt, List, ◌∷◌, ◌++◌, length, map, take, ◌||◌, ◌&&◌, inr, slice_get, Option, Some, None, Result, Ok, Err, Vec, Global, ◌<◌, refl, sym, ap, ap₂, subst, ◌∙◌, arith, true≢false, cond, eqb-true, All, []}
-use Rattle.std.proofs.lemmas.Bool.{cases_lt, lt-ltb, le-leb, le-ltb, ltb-false}
-use Rattle.std.proofs.lemmas.Option.{slice_get_within}
-use Rattle.kv_types.specs.declared.refusal.Refusal.{Refusal}
-use Rattle.kv_types.specs.declared.refusal.Refusal.TheVariants.{Memory}
-use Rattle.pipes.specs.Waiting.{Waiting}
-use Rattle.model.specs.declared.group.Group.{Group}
-use Rattle.model.specs.Group.{Contents}
-use Rattle.model.specs.declared.call.Call.{Call}
-use Rattle.model.specs.Call.{IsLegal, is_nonempty}
-use Rattle.model.specs.Standing.{Holder}
-use Rattle.frames.specs.declared.ack.Ack.{Ack}
-use Rattle.frames.specs.declared.frame.Frame.{Frame}
-use Rattle.standby_stream.specs.declared.opening.Opening.{Opening}
-use Rattle.standby_stream.specs.Stream.{Stream, acknowledged, counts}
-use Rattle.redis_core.specs.Sequencing.{Sequencing}
-use Rattle.wbl_engine.specs.declared.freeing.Freed.{Freed}
-use Rattle.stream_codec.specs.Message.{Acknowledged, IsWithinLimits, sent_of_ack, sent_of_frame, sent_text}
-use Rattle.machine.specs.declared.event.TheConstants.{KEPT_GROUPS}
+use Rattle.world.specs.Words.{Ack, Acknowledged, acknowledged, Acknowledgement, Call, Changes, Contents, Copying, Frame, Freed, Group, Holder, is_nonempty, IsLegal, IsWithinLimits, KEPT_GROUPS, knowing, MachineLink, may_happen, Memory, next_to_send, Opening, option_items, Refusal, Sent, sent_next, sent_of_ack, sent_of_frame, sent_text, sent_with, Sequencing, Span, Stream, told, Waiting, with_link, World}
+use Rattle.world.proofs.Words.{All-append, all-at, All-cons, All-head, All-nil, cases_lt, le-leb, le-ltb, lt-ltb, slice_get_within}
+use Rattle.std.proofs.lemmas.Bool.{ltb-false}
+use Rattle.standby_stream.specs.Stream.{counts}
 use Rattle.machine.specs.declared.event.Event.TheVariants as events
-use Rattle.machine.specs.Event.{Changes, Copying, World, Primary, Link as MachineLink, counts as machine_counts, Frame as Sent, Span, Acknowledgement, may_happen, may_send, next_to_send, framed, sent, sent_next, sent_with, option_items, knowing, raised_remote, told, with_link, with_sent}
-use Rattle.std.proofs.lemmas.List.Elements.{All-append, All-cons, All-head, All-nil}
+use Rattle.machine.specs.Event.{Primary, counts as machine_counts, may_send, framed, sent, raised_remote, with_sent}
 use Rattle.machine.specs.Sound.{IsToldWithin}
-use Rattle.machine.proofs.StandbyLemmas.{all-at}
 use Rattle.world.proofs.AroundLemmas.{around-sent}
 use Rattle.world.proofs.LivesLemmas.{nodes-refine, own-runs}
 use Rattle.world.specs.Condition.{has_ended}
@@ -31,11 +15,10 @@ use Rattle.world.specs.Recalling.{OpeningLeads}
 use Rattle.world.specs.Standby.{told_by}
 use Rattle.world.specs.Pair.{Does, FreeingRefines, Pair, PairRefines, PartsRefine, Steps}
 use Rattle.world.proofs.FrameLemmas.{AreFramesSent-push, may_be_sent, ack_of_read, ack_of_number, length-acks}
-use Rattle.world.proofs.LinkLemmas.{Answers as LinkAnswers, sends}
-use Rattle.world.proofs.AckLemmas.{knows, knows-nothing}
+use Rattle.world.proofs.LinkLemmas.{Answers as LinkAnswers, sends, knows, knows-nothing}
 use Rattle.world.proofs.ArrivalLemmas.{ReadsAs, same_found}
-use Rattle.world.proofs.OpeningLemmas.{opening-forgotten}
-use Rattle.world.proofs.PairLemmas.{cut-same, goes-steps, none-added, reach-below, stays-does, tells}
+use Rattle.world.proofs.RecallLemmas.{opening-forgotten}
+use Rattle.world.proofs.PairLemmas.{cut-same, goes-steps, reach-below, stays-does, tells, steps-only, cut-only}
 
 -- ---- the link
 
@@ -98,37 +81,33 @@ pub delta-does : (old : Pair) (link : Stream) (frame : Frame) (bytes : Vec ℕ G
     → bytes.items ≡ sent_text (sent_of_frame frame) → IsWithinLimits (sent_of_frame frame) → frames ≡ old.wire.frames ++ bytes ∷ []
     → Does old events.Send (Ok true) (with_frames old.primary.handed link old.wire.remote frames old)
 delta-does old link frame bytes frames given taken text within more =
-    record {
-      steps = λ first second w stands.
-          let parts = stands.parts in
-          let machine = w.primary.link in
-          let epoch = old.wire.link.epoch in
-          let calls = w.primary.calls in
-          let one = one_span epoch calls frame machine.delta (subst (λ (d : Option Frame). AreFramesOf epoch calls (option_items d) machine.delta) (sym given) parts.link.delta) in
-          let span = one.0 in
-          let after : MachineLink = record machine { delta = [] } in
-          let passed : List Sent = w.wire.frames ++ framed epoch (Changes span ∷ []) in
-          let now : LinkRefines calls (record old.wire.link { delta = None }) old.primary.handed old.wire.remote after = search (rules, parts.link) in
-          let w' = record w { primary = record w.primary { link = after }; wire = record w.wire { frames = passed } } in
-          let moved : PartsRefine first second (with_frames old.primary.handed link old.wire.remote frames old) w' =
-          subst (λ (fs : List (Vec ℕ Global)). PartsRefine first second (with_frames old.primary.handed link old.wire.remote fs old) w') (sym more)
-          (subst (λ (s : Stream). PartsRefine first second (with_frames old.primary.handed s old.wire.remote (old.wire.frames ++ bytes ∷ []) old) w') (sym taken)
-          (link-parts first second old old.primary.handed (record old.wire.link { delta = None }) old.wire.remote (old.wire.frames ++ bytes ∷ []) w after passed parts refl now
-          (AreFramesSent-push epoch calls old.wire.frames w.wire.frames bytes (record { epoch = epoch; told = Changes span }) parts.frames (passes epoch calls frame bytes span one.2 text within))
-          (λ whole. All-append (IsOwn epoch) w.wire.frames _ (parts.own whole) (All-cons (IsOwn epoch) (record { epoch = epoch; told = Changes span }) [] refl (All-nil (IsOwn epoch)))))) in
-          let happens : w' ≡ sent w =
-          ap₂ (λ (e : ℕ) (spans : List Span). with_sent (framed e (map Changes (take 1 (spans ++ (machine.again ++ machine.waiting))))) (with_link (sent_next spans machine) w)) parts.epoch (sym one.1)
-          ∙ ap (λ (copying : Copying). sent_with copying w) (sym parts.link.copying_is) in
-          goes-steps first second w w' events.Send true old (with_frames old.primary.handed link old.wire.remote frames old) refl refl (nodes-refine stands) (own-runs stands events.Send refl) stands.serves refl happens
-          (record {
-            done = sym (follows-sends w.primary.calls old.wire.link old.primary.handed old.wire.remote machine true parts.link
-                (ap (λ (spans : List Span). is_nonempty spans || (is_nonempty machine.again || (is_nonempty machine.waiting && nat_lt (length machine.kept) KEPT_GROUPS))) one.1));
-            goes = λ did. moved;
-            stays = λ did. absurd (true≢false did);
-          });
-      cut = tt;
-      calls = none-added _ _ refl;
-    }
+    steps-only (λ first second w stands.
+    let parts = stands.parts in
+    let machine = w.primary.link in
+    let epoch = old.wire.link.epoch in
+    let calls = w.primary.calls in
+    let one = one_span epoch calls frame machine.delta (subst (λ (d : Option Frame). AreFramesOf epoch calls (option_items d) machine.delta) (sym given) parts.link.delta) in
+    let span = one.0 in
+    let after : MachineLink = record machine { delta = [] } in
+    let passed : List Sent = w.wire.frames ++ framed epoch (Changes span ∷ []) in
+    let now : LinkRefines calls (record old.wire.link { delta = None }) old.primary.handed old.wire.remote after = search (rules, parts.link) in
+    let w' = record w { primary = record w.primary { link = after }; wire = record w.wire { frames = passed } } in
+    let moved : PartsRefine first second (with_frames old.primary.handed link old.wire.remote frames old) w' =
+    subst (λ (fs : List (Vec ℕ Global)). PartsRefine first second (with_frames old.primary.handed link old.wire.remote fs old) w') (sym more)
+    (subst (λ (s : Stream). PartsRefine first second (with_frames old.primary.handed s old.wire.remote (old.wire.frames ++ bytes ∷ []) old) w') (sym taken)
+    (link-parts first second old old.primary.handed (record old.wire.link { delta = None }) old.wire.remote (old.wire.frames ++ bytes ∷ []) w after passed parts refl now
+    (AreFramesSent-push epoch calls old.wire.frames w.wire.frames bytes (record { epoch = epoch; told = Changes span }) parts.frames (passes epoch calls frame bytes span one.2 text within))
+    (λ whole. All-append (IsOwn epoch) w.wire.frames _ (parts.own whole) (All-cons (IsOwn epoch) (record { epoch = epoch; told = Changes span }) [] refl (All-nil (IsOwn epoch)))))) in
+    let happens : w' ≡ sent w =
+    ap₂ (λ (e : ℕ) (spans : List Span). with_sent (framed e (map Changes (take 1 (spans ++ (machine.again ++ machine.waiting))))) (with_link (sent_next spans machine) w)) parts.epoch (sym one.1)
+    ∙ ap (λ (copying : Copying). sent_with copying w) (sym parts.link.copying_is) in
+    goes-steps first second w w' events.Send true old (with_frames old.primary.handed link old.wire.remote frames old) refl refl (nodes-refine stands) (own-runs stands events.Send refl) stands.serves refl happens
+    (record {
+      done = sym (follows-sends w.primary.calls old.wire.link old.primary.handed old.wire.remote machine true parts.link
+          (ap (λ (spans : List Span). is_nonempty spans || (is_nonempty machine.again || (is_nonempty machine.waiting && nat_lt (length machine.kept) KEPT_GROUPS))) one.1));
+      goes = λ did. moved;
+      stays = λ did. absurd (true≢false did);
+    })) refl
 
 -- there was none, and what was done is of the next group
 pub after-none : (old : Pair) (link : Stream) (opening : Opening) (result : Result Bool Refusal) (new : Pair) → None ≡ old.wire.link.delta → link ≡ record old.wire.link { delta = None } → opening ≡ old.wire.opening
@@ -143,42 +122,34 @@ pub send-does : (old : Pair) (waiting : Waiting Group) (link : Stream) (index : 
     → slice_get link.kept index ≡ Some frame → bytes.items ≡ sent_text (sent_of_frame frame) → IsWithinLimits (sent_of_frame frame) → frames ≡ old.wire.frames ++ bytes ∷ []
     → old.wire.link.delta ≡ None → Does old events.Send (Ok true) (with_frames waiting link old.wire.remote frames old)
 send-does old waiting link index frame bytes frames answers there text within more none_before =
-    record {
-      steps = λ first second w stands.
-          let parts = stands.parts in
-          let machine = w.primary.link in
-          let epoch = old.wire.link.epoch in
-          let calls = w.primary.calls in
-          let at = sends calls old.wire.link old.primary.handed old.wire.remote machine stands.sound.legal parts.link none_before (Ok (Some index)) link waiting answers in
-          let own : at.frame ≡ frame = cc in
-          let is : IsFrameOf epoch calls frame at.span = subst (λ (f : Frame). IsFrameOf epoch calls f at.span) own at.is in
-          let passed : AreFramesSent epoch calls (old.wire.frames ++ bytes ∷ []) (w.wire.frames ++ framed epoch (map Changes (next_to_send machine))) =
-          subst (λ (spans : List Span). AreFramesSent epoch calls (old.wire.frames ++ bytes ∷ []) (w.wire.frames ++ framed epoch (map Changes spans))) (sym at.next)
-          (AreFramesSent-push epoch calls old.wire.frames w.wire.frames bytes (record { epoch = epoch; told = Changes at.span }) parts.frames (passes epoch calls frame bytes at.span is text within)) in
-          let w' = record w { primary = record w.primary { link = sent_next machine.delta machine }; wire = record w.wire { frames = w.wire.frames ++ framed epoch (map Changes (next_to_send machine)) } } in
-          let moved : PartsRefine first second (with_frames waiting link old.wire.remote frames old) w' =
-          subst (λ (fs : List (Vec ℕ Global)). PartsRefine first second (with_frames waiting link old.wire.remote fs old) w') (sym more)
-          (link-parts first second old waiting link old.wire.remote (old.wire.frames ++ bytes ∷ []) w (sent_next machine.delta machine) (w.wire.frames ++ framed epoch (map Changes (next_to_send machine))) parts at.epoch_is at.link passed
-          (λ whole. subst (λ (spans : List Span). All (IsOwn epoch) (w.wire.frames ++ framed epoch (map Changes spans))) (sym at.next) (All-append (IsOwn epoch) w.wire.frames _ (parts.own whole) (All-cons (IsOwn epoch) (record { epoch = epoch; told = Changes at.span }) [] refl (All-nil (IsOwn epoch)))))) in
-          goes-steps first second w w' events.Send true old (with_frames waiting link old.wire.remote frames old) refl refl (nodes-refine stands) (own-runs stands events.Send refl) stands.serves refl
-          (ap (λ e. with_sent (framed e (map Changes (next_to_send machine))) (with_link (sent_next machine.delta machine) w)) parts.epoch ∙ ap (λ (copying : Copying). sent_with copying w) (sym parts.link.copying_is))
-          (record { done = sym (follows-sends w.primary.calls old.wire.link old.primary.handed old.wire.remote machine true parts.link at.may); goes = λ did. moved; stays = λ did. absurd (true≢false did) });
-      cut = tt;
-      calls = none-added _ _ refl;
-    }
+    steps-only (λ first second w stands.
+    let parts = stands.parts in
+    let machine = w.primary.link in
+    let epoch = old.wire.link.epoch in
+    let calls = w.primary.calls in
+    let at = sends calls old.wire.link old.primary.handed old.wire.remote machine stands.sound.legal parts.link none_before (Ok (Some index)) link waiting answers in
+    let own : at.frame ≡ frame = cc in
+    let is : IsFrameOf epoch calls frame at.span = subst (λ (f : Frame). IsFrameOf epoch calls f at.span) own at.is in
+    let passed : AreFramesSent epoch calls (old.wire.frames ++ bytes ∷ []) (w.wire.frames ++ framed epoch (map Changes (next_to_send machine))) =
+    subst (λ (spans : List Span). AreFramesSent epoch calls (old.wire.frames ++ bytes ∷ []) (w.wire.frames ++ framed epoch (map Changes spans))) (sym at.next)
+    (AreFramesSent-push epoch calls old.wire.frames w.wire.frames bytes (record { epoch = epoch; told = Changes at.span }) parts.frames (passes epoch calls frame bytes at.span is text within)) in
+    let w' = record w { primary = record w.primary { link = sent_next machine.delta machine }; wire = record w.wire { frames = w.wire.frames ++ framed epoch (map Changes (next_to_send machine)) } } in
+    let moved : PartsRefine first second (with_frames waiting link old.wire.remote frames old) w' =
+    subst (λ (fs : List (Vec ℕ Global)). PartsRefine first second (with_frames waiting link old.wire.remote fs old) w') (sym more)
+    (link-parts first second old waiting link old.wire.remote (old.wire.frames ++ bytes ∷ []) w (sent_next machine.delta machine) (w.wire.frames ++ framed epoch (map Changes (next_to_send machine))) parts at.epoch_is at.link passed
+    (λ whole. subst (λ (spans : List Span). All (IsOwn epoch) (w.wire.frames ++ framed epoch (map Changes spans))) (sym at.next) (All-append (IsOwn epoch) w.wire.frames _ (parts.own whole) (All-cons (IsOwn epoch) (record { epoch = epoch; told = Changes at.span }) [] refl (All-nil (IsOwn epoch)))))) in
+    goes-steps first second w w' events.Send true old (with_frames waiting link old.wire.remote frames old) refl refl (nodes-refine stands) (own-runs stands events.Send refl) stands.serves refl
+    (ap (λ e. with_sent (framed e (map Changes (next_to_send machine))) (with_link (sent_next machine.delta machine) w)) parts.epoch ∙ ap (λ (copying : Copying). sent_with copying w) (sym parts.link.copying_is))
+    (record { done = sym (follows-sends w.primary.calls old.wire.link old.primary.handed old.wire.remote machine true parts.link at.may); goes = λ did. moved; stays = λ did. absurd (true≢false did) })) refl
 
 pub send-none : (old : Pair) (waiting : Waiting Group) (link : Stream) → LinkAnswers old.wire.link old.primary.handed (Ok None) link waiting → old.wire.link.delta ≡ None
     → Does old events.Send (Ok false) (with_frames waiting link old.wire.remote old.wire.frames old)
 send-none old waiting link answers none_before =
-    record {
-      steps = λ first second w stands.
-          let none = sends w.primary.calls old.wire.link old.primary.handed old.wire.remote w.primary.link stands.sound.legal stands.parts.link none_before (Ok None) link waiting answers in
-          let stayed = link-alone first second old waiting link old.wire.remote w w.primary.link stands.parts none.epoch_is none.link in
-          goes-steps first second w (sent w) events.Send false old (with_frames waiting link old.wire.remote old.wire.frames old) refl refl (nodes-refine stands) (own-runs stands events.Send refl) stands.serves refl refl
-          (record { done = sym (follows-sends w.primary.calls old.wire.link old.primary.handed old.wire.remote w.primary.link false stands.parts.link none.may); goes = λ did. absurd (true≢false (sym did)); stays = λ did. stayed });
-      cut = tt;
-      calls = none-added _ _ refl;
-    }
+    steps-only (λ first second w stands.
+    let none = sends w.primary.calls old.wire.link old.primary.handed old.wire.remote w.primary.link stands.sound.legal stands.parts.link none_before (Ok None) link waiting answers in
+    let stayed = link-alone first second old waiting link old.wire.remote w w.primary.link stands.parts none.epoch_is none.link in
+    goes-steps first second w (sent w) events.Send false old (with_frames waiting link old.wire.remote old.wire.frames old) refl refl (nodes-refine stands) (own-runs stands events.Send refl) stands.serves refl refl
+    (record { done = sym (follows-sends w.primary.calls old.wire.link old.primary.handed old.wire.remote w.primary.link false stands.parts.link none.may); goes = λ did. absurd (true≢false (sym did)); stays = λ did. stayed })) refl
 
 -- memory was refused for a frame that there is
 pub send-cut : (old : Pair) (waiting : Waiting Group) (link : Stream) (frames : List (Vec ℕ Global)) (result : Result Bool Refusal) (refusal : Refusal) → result ≡ Err refusal → refusal ≡ Memory
@@ -186,12 +157,8 @@ pub send-cut : (old : Pair) (waiting : Waiting Group) (link : Stream) (frames : 
     → Does old events.Send result (with_frames waiting link old.wire.remote frames old)
 send-cut old waiting link frames result refusal is memory enabled =
     subst (λ (r : Result Bool Refusal). Does old events.Send r (with_frames waiting link old.wire.remote frames old)) (sym is)
-    (record {
-      steps = tt;
-      cut = λ first second w stands.
-          cut-same first second events.Send refusal old (with_frames waiting link old.wire.remote frames old) w refl memory refl refl (tells old.clients.transcript) refl (own-runs stands events.Send refl) (enabled w stands.sound.legal stands.parts.link) (nodes-refine stands);
-      calls = none-added _ _ refl;
-    })
+    (cut-only (λ first second w stands.
+    cut-same first second events.Send refusal old (with_frames waiting link old.wire.remote frames old) w refl memory refl refl (tells old.clients.transcript) refl (own-runs stands events.Send refl) (enabled w stands.sound.legal stands.parts.link) (nodes-refine stands)) refl)
 
 -- memory was refused for it
 pub delta-cut : (old : Pair) (link : Stream) (frame : Frame) (frames : List (Vec ℕ Global)) (result : Result Bool Refusal) (refusal : Refusal) → Some frame ≡ old.wire.link.delta → result ≡ Err refusal → refusal ≡ Memory
@@ -211,25 +178,21 @@ with_mark remote pair = record pair { wire = record pair.wire { remote = remote 
 
 pub raise-does : (old : Pair) (known : ℕ) (did : Bool) → known ≡ old.wire.link.known → did ≡ nat_lt old.wire.remote known → Does old events.RaiseRemote (Ok did) (with_mark known old)
 raise-does old known did same is =
-    record {
-      steps = λ first second w stands.
-          let parts = stands.parts in
-          let link = parts.link in
-          let machine = w.primary.link in
-          let highest : known ≡ machine.known = same ∙ link.known in
-          let raised : (remote : ℕ) → known ≡ remote → PartsRefine first second (with_mark known old) (with_link (record machine { remote = remote }) w) =
-          (λ remote at. link-alone first second old old.primary.handed old.wire.link known w (record machine { remote = remote }) parts refl (search (rules, link))) in
-          goes-steps first second w (with_link (raised_remote machine) w) events.RaiseRemote did old (with_mark known old) refl refl (nodes-refine stands) (own-runs stands events.RaiseRemote refl) stands.serves refl refl
-          (record {
-            done = is ∙ ap₂ nat_lt link.remote_is highest;
-            goes = λ rose. raised machine.known highest;
-            stays = λ stayed.
-                let low : known ≤ old.wire.remote = ltb-false old.wire.remote known (sym is ∙ stayed) in
-                raised machine.remote (omega (arith, low, highest, link.remote_is, stands.sound.link.remote));
-          });
-      cut = tt;
-      calls = none-added _ _ refl;
-    }
+    steps-only (λ first second w stands.
+    let parts = stands.parts in
+    let link = parts.link in
+    let machine = w.primary.link in
+    let highest : known ≡ machine.known = same ∙ link.known in
+    let raised : (remote : ℕ) → known ≡ remote → PartsRefine first second (with_mark known old) (with_link (record machine { remote = remote }) w) =
+    (λ remote at. link-alone first second old old.primary.handed old.wire.link known w (record machine { remote = remote }) parts refl (search (rules, link))) in
+    goes-steps first second w (with_link (raised_remote machine) w) events.RaiseRemote did old (with_mark known old) refl refl (nodes-refine stands) (own-runs stands events.RaiseRemote refl) stands.serves refl refl
+    (record {
+      done = is ∙ ap₂ nat_lt link.remote_is highest;
+      goes = λ rose. raised machine.known highest;
+      stays = λ stayed.
+          let low : known ≤ old.wire.remote = ltb-false old.wire.remote known (sym is ∙ stayed) in
+          raised machine.remote (omega (arith, low, highest, link.remote_is, stands.sound.link.remote));
+    })) refl
 
 -- ---- acknowledgements
 
@@ -263,19 +226,15 @@ pub ack-does : (old : Pair) (n : ℕ) (bytes : Vec ℕ Global) (ack : Ack) (link
     → (counts old.wire.link.epoch ack ≡ false → (link ≡ old.wire.link) × (opening ≡ old.wire.opening))
     → Does old (events.AckDelivered n) (Ok true) (with_learned link opening old)
 ack-does old n bytes ack link opening within found reads learns refuses =
-    record {
-      steps = λ first second w stands.
-          let of = ack_of_number old.wire.arrivals.acknowledgements.items w.wire.acknowledgements n stands.parts.arrivals.acknowledged within in
-          let is : IsAckSent bytes.items of.one = subst (λ (b : Vec ℕ Global). IsAckSent b.items of.one) (same_found of.bytes_stand found) of.is in
-          let there : slice_get w.wire.acknowledgements n ≡ Some (told_by ack) = of.stands ∙ ap Some (sym (ack_of_read ack of.one (reads (Acknowledged of.one.epoch of.one.position) is.may is.text))) in
-          let one = told-one w.primary.epoch w.standby.position w.wire.acknowledgements n (told_by ack) stands.sound.wire.acknowledged there in
-          elim (counts old.wire.link.epoch ack) as (λ b. counts old.wire.link.epoch ack ≡ b → Steps first second w (events.AckDelivered n) true old (with_learned link opening old)) [
-            | true ↦ λ counted. taken first second w stands there (within-standby first second w stands counted one) counted
-            | false ↦ λ stale. refused first second w stands there stale
-          ] refl;
-      cut = tt;
-      calls = none-added _ _ refl;
-    }
+    steps-only (λ first second w stands.
+    let of = ack_of_number old.wire.arrivals.acknowledgements.items w.wire.acknowledgements n stands.parts.arrivals.acknowledged within in
+    let is : IsAckSent bytes.items of.one = subst (λ (b : Vec ℕ Global). IsAckSent b.items of.one) (same_found of.bytes_stand found) of.is in
+    let there : slice_get w.wire.acknowledgements n ≡ Some (told_by ack) = of.stands ∙ ap Some (sym (ack_of_read ack of.one (reads (Acknowledged of.one.epoch of.one.position) is.may is.text))) in
+    let one = told-one w.primary.epoch w.standby.position w.wire.acknowledgements n (told_by ack) stands.sound.wire.acknowledged there in
+    elim (counts old.wire.link.epoch ack) as (λ b. counts old.wire.link.epoch ack ≡ b → Steps first second w (events.AckDelivered n) true old (with_learned link opening old)) [
+      | true ↦ λ counted. taken first second w stands there (within-standby first second w stands counted one) counted
+      | false ↦ λ stale. refused first second w stands there stale
+    ] refl) refl
   where
     told-one : (epoch position : ℕ) (told : List Acknowledgement) (i : ℕ) (one : Acknowledgement) → All (IsToldWithin epoch position) told → slice_get told i ≡ Some one → IsToldWithin epoch position one
     told-one epoch position told i one all is = All-head (IsToldWithin epoch position) one [] (subst (λ (o : Option Acknowledgement). All (IsToldWithin epoch position) (option_items o)) is (all-at (IsToldWithin epoch position) told i all))
@@ -368,16 +327,12 @@ pub ack-cut : (old : Pair) (n : ℕ) (bytes : Vec ℕ Global) (result : Result B
     → slice_get old.wire.arrivals.acknowledgements.items n ≡ Some bytes → ((ack : Acknowledgement) → IsAckSent bytes.items ack → refusal ≡ Memory) → Does old (events.AckDelivered n) result old
 ack-cut old n bytes result refusal is within found memory =
     subst (λ (r : Result Bool Refusal). Does old (events.AckDelivered n) r old) (sym is)
-    (record {
-      steps = tt;
-      cut = λ first second w stands.
-          let told = stands.parts.arrivals.acknowledged in
-          let of = ack_of_number old.wire.arrivals.acknowledgements.items w.wire.acknowledgements n told within in
-          let one : IsAckSent bytes.items of.one = subst (λ (b : Vec ℕ Global). IsAckSent b.items of.one) (same_found of.bytes_stand found) of.is in
-          let few : n < length w.wire.acknowledgements = omega (arith, within, length-acks old.wire.arrivals.acknowledgements.items w.wire.acknowledgements told) in
-          cut-same first second (events.AckDelivered n) refusal old old w refl (memory of.one one) refl refl (tells old.clients.transcript) refl (own-runs stands (events.AckDelivered n) refl) (lt-ltb n (length w.wire.acknowledgements) few) (nodes-refine stands);
-      calls = none-added _ _ refl;
-    })
+    (cut-only (λ first second w stands.
+    let told = stands.parts.arrivals.acknowledged in
+    let of = ack_of_number old.wire.arrivals.acknowledgements.items w.wire.acknowledgements n told within in
+    let one : IsAckSent bytes.items of.one = subst (λ (b : Vec ℕ Global). IsAckSent b.items of.one) (same_found of.bytes_stand found) of.is in
+    let few : n < length w.wire.acknowledgements = omega (arith, within, length-acks old.wire.arrivals.acknowledgements.items w.wire.acknowledgements told) in
+    cut-same first second (events.AckDelivered n) refusal old old w refl (memory of.one one) refl refl (tells old.clients.transcript) refl (own-runs stands (events.AckDelivered n) refl) (lt-ltb n (length w.wire.acknowledgements) few) (nodes-refine stands)) refl)
 
 pub no-ack-does : (old : Pair) (n : ℕ) → length old.wire.arrivals.acknowledgements.items ≤ n → Does old (events.AckDelivered n) (Ok false) old
 no-ack-does old n past = stays-does old (events.AckDelivered n) refl (λ first second w stands.

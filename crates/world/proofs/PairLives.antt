@@ -1,40 +1,21 @@
 -- What an event does to any pair: where its nodes do not take part, and where its primary runs.
-use Rattle.std.proofs.Common.{◌≡◌, ◌&&◌, Bool, true, false, Result, Ok, Err, refl, sym, ap, subst, ◌∙◌, true≢false}
-use Rattle.kv_types.specs.declared.refusal.Refusal.{Refusal}
-use Rattle.model.specs.Standing.{Holder}
-use Rattle.machine.specs.declared.event.Event.{Event}
-use Rattle.machine.specs.declared.event.Event.TheVariants.{Apply, Crash, Deliver, FailFence, Fence, OpenLink, Promote, Reopen}
-use Rattle.machine.specs.declared.event.Cut.{Cut}
+use Rattle.std.proofs.Common.{◌≡◌, ◌&&◌, Bool, true, false, Result, Ok, Err, refl, sym, ap, ap₂, subst, ◌∙◌, true≢false}
+use Rattle.world.specs.Words.{are_running, Cut, Event, Holder, is_between, is_enabled, is_follower, is_retired, is_running, may_happen, nodes_run, Promote, Refusal, row, torn, World}
 use Rattle.machine.specs.declared.event.Cut.TheVariants as cut
-use Rattle.machine.specs.declared.event.Node.TheVariants as node_of
-use Rattle.machine.specs.Event.{World, is_between, is_enabled, is_follower, is_retired, is_running, may_happen, nodes_run}
 use Rattle.world.specs.Pair.{Acts, AreLives, Does, NodesRefine, Pair, takes_part, Lives}
 use Rattle.world.proofs.LivesLemmas.{retired-as, running-as, serves-as}
-use Rattle.world.proofs.PairLemmas.{none-added, steps-none}
+use Rattle.world.proofs.PairLemmas.{steps-none, steps-only}
 use Rattle.world.specs.Condition.{has_ended, runs}
 
 -- the nodes of an event run just where they are said to
 nodes-take : {first second : Holder} {lives : Lives} {w : World} → AreLives first second lives w → (event : Event) → nodes_run w event ≡ takes_part (runs lives.primary) (runs lives.standby) event
-nodes-take {first} {second} {lives} {w} are OpenLink =
-    ap (λ b. b && is_running w.standby.life) (ap is_running are.primary ∙ running-as lives.primary _) ∙ ap (λ b. runs lives.primary && b) (ap is_running are.standby ∙ running-as lives.standby _)
-nodes-take {first} {second} {lives} {w} are (Deliver frame piece) = ap is_running are.standby ∙ running-as lives.standby _
-nodes-take {first} {second} {lives} {w} are Apply = ap is_running are.standby ∙ running-as lives.standby _
-nodes-take {first} {second} {lives} {w} are (FailFence node_of.Primary n) = ap is_running are.primary ∙ running-as lives.primary _
-nodes-take {first} {second} {lives} {w} are (FailFence node_of.Standby n) = ap is_running are.standby ∙ running-as lives.standby _
-nodes-take lives (Crash node call k picks) = refl
-nodes-take lives (Reopen node) = refl
-nodes-take lives Fence = refl
-nodes-take {first} {second} {lives} {w} are Promote = ap is_running are.standby ∙ running-as lives.standby _
-nodes-take {first} {second} {lives} {w} are event = ap is_running are.primary ∙ running-as lives.primary _
+nodes-take {first} {second} {lives} {w} are event =
+    ap₂ (are_running (row event).runners) (ap is_running are.primary ∙ running-as lives.primary (torn w.primary.life)) (ap is_running are.standby ∙ running-as lives.standby (torn w.standby.life))
 
 -- an event that is not enabled
 pub stays-acts : (old : Pair) (event : Event) → ((first second : Holder) (w : World) → NodesRefine first second old w → is_enabled w event ≡ false) → Acts old event (Ok false) old
 stays-acts old event never =
-    record {
-      steps = λ first second w stands. steps-none stands (never first second w stands) stands refl refl;
-      cut = tt;
-      calls = none-added _ _ refl;
-    }
+    steps-only (λ first second w stands. steps-none stands (never first second w stands) stands refl refl) refl
 
 -- its nodes do not run
 pub idle-acts : (old : Pair) (event : Event) → takes_part (runs old.lives.primary) (runs old.lives.standby) event ≡ false → Acts old event (Ok false) old

@@ -1,43 +1,31 @@
 -- What the promotion of the standby does to the pair.
-use Rattle.std.proofs.Common.{◌≡◌, inl, inr, ℕ, ◌<◌, Bool, true, ◌&&◌, [], map, length, slice_index_or, Result, Ok, Err, Vec, Global, refl, sym, ap, ap₂, subst, ◌∙◌, arith}
-use Rattle.std.proofs.lemmas.List.{length-map}
-use Rattle.kv_types.specs.declared.refusal.Refusal.{Refusal}
-use Rattle.kv_types.specs.declared.refusal.Refusal.TheVariants.{Fault}
-use Rattle.pmem.specs.Device.{State}
-use Rattle.pmem.specs.Runs.{LeavesOnly}
-use Rattle.pmem.proofs.Leaving.{LeavesOnly-weaken}
+use Rattle.std.proofs.Common.{◌≡◌, ◌⊎◌, inl, inr, ℕ, ◌<◌, Bool, true, ◌&&◌, List, [], ◌++◌, map, Result, Ok, Err, Vec, Global, refl, sym, ap, ap₂, subst, ◌∙◌, arith}
+use Rattle.world.specs.Words.{AddsOne, Allowed, Contents, cut_at, ExhaustsPromotion, Fault, HasSeat, Holder, Image, is_enabled, is_follower, is_retired, is_running, is_stopped, LeavesOnly, left, Opening, Promote, promoted, Refusal, Remains, Reopen, seats_of, State, Step, Stream, torn, Transcript, World}
+use Rattle.world.proofs.Words.{LeavesOnly-weaken}
 use Rattle.model.specs.declared.record.Role.TheVariants as role
-use Rattle.model.specs.Call.{cut_at}
-use Rattle.model.specs.Group.{Contents}
-use Rattle.model.specs.Image.{Image}
-use Rattle.model.specs.Standing.{Holder}
-use Rattle.standby_stream.specs.declared.opening.Opening.{Opening}
-use Rattle.standby_stream.specs.Stream.{Stream}
-use Rattle.wbl_engine.specs.Promoting.{ExhaustsPromotion}
 use Rattle.machine.specs.declared.event.Cut.TheVariants as cut
-use Rattle.machine.specs.declared.event.Event.TheVariants.{Promote, Reopen}
 use Rattle.machine.specs.declared.event.Node.TheVariants as node
-use Rattle.machine.specs.Event.{Allowed, World, Step, is_enabled, is_follower, is_retired, is_running, is_stopped, left, promoted, torn}
 use Rattle.machine.proofs.SureLemmas.{unfailed}
-use Rattle.machine.specs.Promise.{released_in}
-use Rattle.connections.proofs.SessionLemmas.{length-released, released-told}
-use Rattle.connections.specs.Session.{AddsOne, HasSeat, released_of, seats_of}
-use Rattle.connections.specs.declared.transcript.Transcript.{Transcript}
 use Rattle.world.specs.Cause.{Promoting}
 use Rattle.world.specs.Committing.{OpensAsEither, OpensAt, next_standby, promoted_holder}
 use Rattle.world.specs.Condition.{has_ended, runs}
 use Rattle.world.specs.declared.condition.Condition.TheVariants.{Crashed, Ended}
-use Rattle.world.specs.Pair.{Acts, AreLives, EitherRefines, HasStandby, IsPromotionCut, NodesRefine, Pair, Promotes, Succeeds, first_device, second_device, Lives, Clients, ClientsRefine, Serving}
+use Rattle.world.specs.Pair.{ToldAs, Acts, AreLives, HasStandby, IsPromotionCut, NodesRefine, Pair, Succeeds, first_device, second_device, Lives, Clients, ClientsRefine, Serving}
+use Rattle.world.specs.Remaining.{OpensAsOne, OpensNear}
 use Rattle.world.specs.Standby.{Arrived, Node}
+use Rattle.world.specs.Step.{IsStep}
 use Rattle.world.proofs.AroundLemmas.{around-stands}
 use Rattle.world.proofs.KeptLemmas.{KeepsAsEither}
 use Rattle.world.proofs.LivesLemmas.{not-over, retired-as, running-as}
 use Rattle.world.proofs.OpenedLemmas.{IsNotOpened, IsOpened, opened-stands}
 use Rattle.world.proofs.PairFallen.{devices-are, promoted-stands}
-use Rattle.world.proofs.PairLemmas.{none-added, does-step}
+use Rattle.world.proofs.PairLemmas.{does-step, none-added, told-as}
 use Rattle.world.proofs.PairReopen.{Begins, primary-reopens, with_opened_primary}
 use Rattle.world.proofs.PairStandby.{follower}
-use Rattle.world.proofs.PromotionLemmas.{OpensAt-uncut, PromotesUnder, WasNotPromoted, WasPromoted, down-promoted, former_holder, not-opened-ends, not-opened-keeps, not-promoted-ends, opened-leaves, promoted-floor, same-failures}
+use Rattle.world.proofs.StepLemmas.{promoted-is}
+use Rattle.world.proofs.CutLemmas.{keyspace_after-cut_at-cut}
+use Rattle.world.proofs.LeadLemmas.{OpensAt-like}
+use Rattle.world.proofs.PromotionLemmas.{PromotesUnder, WasNotPromoted, WasPromoted, down-promoted, former_holder, not-opened-ends, not-opened-keeps, not-promoted-ends, opened-leaves, promoted-floor, same-failures}
 
 -- ---- the pair
 
@@ -58,25 +46,6 @@ left_with clients device link arrivals node pair = record {
   lives = record { primary = Crashed; standby = Ended; asked = record pair.lives.asked { primary = pair.lives.asked.standby } };
 }
 
--- the list of calls and the released bytes are those of the world
-record ToldAs (transcript : Transcript) (w : World) : Type 0 where
-  calls : transcript.calls.items ≡ w.primary.calls
-  released : (c : ℕ) → slice_index_or (released_of transcript) c [] ≡ released_in w c
-  count : length transcript.released.items ≡ length w.primary.connections
-
-told-as : {first second : Holder} {pair : Pair} {w : World} → EitherRefines first second pair w → ToldAs pair.clients.transcript w
-told-as {first} {second} {pair} {w} parts =
-    let told = (around-stands parts).sessions.told in
-    record {
-      calls = told.calls_are;
-      released = λ c. released-told w.primary.calls pair.clients.transcript w.primary.connections told c;
-      count = omega (
-        arith,
-        length-released w.primary.calls pair.clients.transcript w.primary.connections told,
-        length-map pair.clients.transcript.released.items (λ (bytes : Vec ℕ Global). bytes.items),
-      );
-    }
-
 module _ (old : Pair) (fenced : has_ended old.lives.primary ≡ true) (follows : runs old.lives.standby ≡ true) where
   began : HasStandby old
   began = not-over old.lives.standby follows
@@ -92,9 +61,10 @@ module _ (old : Pair) (fenced : has_ended old.lives.primary ≡ true) (follows :
 
   pub promotion-refused : (node' : Node) (result : Result Bool Refusal) (refusal : Refusal) → result ≡ Err refusal
       → ((first second : Holder) (w : World) → NodesRefine first second old w → WasNotPromoted old.standby.device node'.device old.standby.contents old.standby.is_faulted refusal)
-      → Promotes old result (with_node_in node')
+      → IsStep old Promote result (with_node_in node')
   promotion-refused node' result refusal is was =
-      subst (λ (r : Result Bool Refusal). Promotes old r new) (sym is) (record { succeeds = tt; cut = cut; calls = none-added _ _ refl })
+      subst (λ (r : Result Bool Refusal). IsStep old Promote r new) (sym is)
+      (promoted-is (Err refusal) refl (record { succeeds = tt; cut = (refl, cut); calls = none-added _ _ refl }) began ((devices-are new began).0 ∙ sym (devices-are old began).0) refl refl tt)
     where
       new : Pair
       new = with_node_in node'
@@ -102,15 +72,12 @@ module _ (old : Pair) (fenced : has_ended old.lives.primary ≡ true) (follows :
       cut : (first second : Holder) (w : World) → NodesRefine first second old w → IsPromotionCut second refusal old new w
       cut first second w stands =
           let stood = follower follows stands.parts in
-          let told = told-as stands.parts in
           let p = w.standby.position in
           let next = next_standby w in
           let ends = not-promoted-ends second w.primary.calls p next old.standby.device node'.device old.standby.contents old.standby.is_faulted refusal stood.engine stood.role_held (was first second w stands) in
           record {
             enabled = promote-enabled stands.lives fenced follows;
-            calls = told.calls;
-            released = told.released;
-            count = told.count;
+            told = told-as stands.parts;
             first_stays = (devices-are new began).0 ∙ sym (devices-are old began).0;
             cause = subst (λ (d : State). Promoting refusal second w.primary.calls p next d (second_device new)) (sym (devices-are old began).1)
                 (subst (λ (d : State). Promoting refusal second w.primary.calls p next old.standby.device d) (sym (devices-are new began).1) ends);
@@ -121,44 +88,25 @@ module _ (old : Pair) (fenced : has_ended old.lives.primary ≡ true) (follows :
   module _ (epoch : ℕ) (token : epoch ≡ old.wire.link.epoch) (between crashed : State) (after : Contents)
       (under : PromotesUnder epoch old.standby.device between crashed old.standby.contents after old.standby.is_faulted) where
     was : (first second : Holder) (w : World) → NodesRefine first second old w → WasPromoted old.standby.device between crashed old.standby.contents after × (¬ ExhaustsPromotion old.standby.contents.current)
-    was first second w stands =
-        let names = names-epoch first second w stands epoch token in
-        let sound = (follower follows stands.parts).engine.sound in (
-          record {
-            moved = under.moved;
-            durable = under.durable;
-            lawful = under.lawful;
-            sized = under.sized;
-            promoting = under.promoting names sound;
-            promoting_failures = under.promoting_failures;
-            settled = under.settled;
-            image = under.image;
-            lines_are = under.lines_are;
-            failures = under.failures;
-            moments = under.moments;
-          },
-          under.fits names sound,
-        )
+    was first second w stands = under (names-epoch first second w stands epoch token) (follower follows stands.parts).engine.sound
 
     -- and not opened
     pub opening-refused : (new : Pair) (last : State) (result : Result Bool Refusal) (refusal : Refusal) → result ≡ Err refusal → new.clients.transcript ≡ old.clients.transcript → first_device new ≡ old.primary.device → second_device new ≡ last
-        → IsNotOpened role.Primary crashed last refusal → Promotes old result new
-    opening-refused new last result refusal is same former latter refused =
-        subst (λ (r : Result Bool Refusal). Promotes old r new) (sym is) (record { succeeds = tt; cut = cut; calls = none-added _ _ (ap (λ (t : Transcript). t.calls) same) })
+        → IsNotOpened role.Primary crashed last refusal → new.wire.frames ≡ old.wire.frames → new.wire.arrivals.acknowledgements.items ≡ old.wire.arrivals.acknowledgements.items → IsStep old Promote result new
+    opening-refused new last result refusal is same former latter refused frames acks =
+        subst (λ (r : Result Bool Refusal). IsStep old Promote r new) (sym is)
+        (promoted-is (Err refusal) refl (record { succeeds = tt; cut = (refl, cut); calls = none-added _ _ (ap (λ (t : Transcript). t.calls) same) }) began (former ∙ sym (devices-are old began).0) frames acks tt)
       where
         cut : (first second : Holder) (w : World) → NodesRefine first second old w → IsPromotionCut second refusal old new w
         cut first second w stands =
             let stood = follower follows stands.parts in
-            let told : ToldAs new.clients.transcript w = subst (λ (t : Transcript). ToldAs t w) (sym same) (told-as stands.parts) in
             let p = w.standby.position in
             let next = next_standby w in
             let made = was first second w stands in
             let ends = not-opened-ends second w.primary.calls p old.standby.device between crashed old.standby.contents after old.standby.is_faulted stood.engine made.1 made.0 last refusal next refused in
             record {
               enabled = promote-enabled stands.lives fenced follows;
-              calls = told.calls;
-              released = told.released;
-              count = told.count;
+              told = subst (λ (t : Transcript). ToldAs t w) (sym same) (told-as stands.parts);
               first_stays = former ∙ sym (devices-are old began).0;
               cause = subst (λ (d : State). Promoting refusal second w.primary.calls p next d (second_device new)) (sym (devices-are old began).1)
                   (subst (λ (d : State). Promoting refusal second w.primary.calls p next old.standby.device d) (sym latter) ends);
@@ -194,9 +142,9 @@ module _ (old : Pair) (fenced : has_ended old.lives.primary ≡ true) (follows :
           let ended = subst (λ n. ClientsRefine clients (map left w.primary.connections) (cut_at calls n)) here (ends w (around-stands stands.parts).sessions) in
           promoted-stands fallen w stands image floor (ap (λ (s : Stream). s.epoch) begins.link_is ∙ engine.contents_at.epoch_is) ended unseated refl lost told refl refl refl
 
-      pub promotion-done : node'.device ≡ old.primary.device → AddsOne old.clients.transcript.calls clients.transcript.calls → Promotes old (Ok true) (with_opened_primary serving link opening fallen)
+      pub promotion-done : node'.device ≡ old.primary.device → AddsOne old.clients.transcript.calls clients.transcript.calls → IsStep old Promote (Ok true) (with_opened_primary serving link opening fallen)
       promotion-done former added =
-          record { succeeds = (refl, succeeds); cut = tt; calls = added }
+          promoted-is (Ok true) refl (record { succeeds = (refl, succeeds); cut = tt; calls = added }) began (former ∙ sym (devices-are old began).0) refl (ap (λ (acks : Vec (Vec ℕ Global) Global). acks.items) told) tt
         where
           new : Pair
           new = with_opened_primary serving link opening fallen
@@ -204,7 +152,7 @@ module _ (old : Pair) (fenced : has_ended old.lives.primary ≡ true) (follows :
           acts : Acts fallen (Reopen node.Primary) (Ok true) new
           acts = primary-reopens fallen serving link opening refl opened begins
 
-          succeeds : (first second : Holder) (w : World) → NodesRefine first second old w → Succeeds second w old new
+          succeeds : (first second : Holder) (w : World) → NodesRefine first second old w → Succeeds second w Promote old new
           succeeds first second w stands =
               let p = w.standby.position in
               let calls = w.primary.calls in
@@ -216,28 +164,37 @@ module _ (old : Pair) (fenced : has_ended old.lives.primary ≡ true) (follows :
               let opens = unfailed (promoted w) node.Primary cut.Reopen w' (ap is_stopped reopens.stands.lives.primary) (reopens.step.happens refl) in
               let step : Step w Promote true w' =
               does-step (promote-enabled stands.lives fenced follows) (inl (record { ended = opens.ended; gaps = opens.gaps; some = omega arith; few = opens.few; now = opens.now })) in
+              let at = ap (λ (x : World). x.primary.committer.position) opens.now in
+              let runs : torn w'.primary.life ≡ [] = ap torn reopens.stands.lives.primary in
               let last : LeavesOnly crashed serving.device (OpensAt (promoted_holder second) calls p) =
               LeavesOnly-weaken (OpensAt (promoted_holder second) calls p)
               (λ image either. elim either [
-                | inl is ↦ uncut second w image is
-                | inr (inl is) ↦ uncut second w image (subst (λ n. OpensAt (promoted_holder second) (cut_at calls p) n image) (ap (λ (x : World). x.primary.committer.position) opens.now) is)
-                | inr (inr none) ↦ absurd none
+                | inl (inl is) ↦ uncut second w image is
+                | inl (inr none) ↦ absurd none
+                | inr (inl is) ↦ uncut second w image (subst (λ n. OpensAt (promoted_holder second) (cut_at calls p) n image) at is)
+                | inr (inr one) ↦ absurd (subst (λ (remains : List Remains). OpensAsOne (promoted_holder second) (cut_at calls p) w'.primary.committer.position remains image) runs one)
               ])
               reopens.moves.primary.leaves in
               let leaves = opened-leaves second calls p old.standby.device between crashed old.standby.contents after old.standby.is_faulted stood.engine made.1 made.0 serving.device last in
+              let either : Image → Type 0 = λ image. OpensNear second calls p (torn w.standby.life ++ []) image ⊎ OpensAt (promoted_holder second) calls p image in
               let same = same-failures second calls p old.standby.device between crashed old.standby.contents after old.standby.is_faulted stood.engine made.1 made.0 in
               record {
                 world = w';
                 step = step;
+                position = at;
+                calls = ap (λ (x : World). x.primary.calls) opens.now;
                 former = former_holder second;
                 began = began;
                 ended = refl;
                 stands = reopens.stands;
                 first_stays = former ∙ sym (devices-are old began).0;
-                leaves = subst (λ (d : State). LeavesOnly d serving.device (OpensAsEither second calls p)) (sym (devices-are old began).1) leaves;
-                failures = reopens.moves.primary.failures ∙ same ∙ ap (λ (d : State). d.failures) (sym (devices-are old began).1);
+                leaves = LeavesOnly-weaken either (λ image opens. elim opens [ inl here ↦ inl (inl here) | inr ahead ↦ inr ahead ])
+                    (subst (λ (d : State). LeavesOnly d serving.device (OpensAsEither second calls p)) (sym (devices-are old began).1) leaves);
+                failures = λ whole. reopens.moves.primary.failures (ap is_stopped reopens.stands.lives.primary) ∙ same ∙ ap (λ (d : State). d.failures) (sym (devices-are old began).1);
               }
             where
               uncut : (second : Holder) (w : World) (image : Image) → OpensAt (promoted_holder second) (cut_at w.primary.calls w.standby.position) w.standby.position image
                   → OpensAt (promoted_holder second) w.primary.calls w.standby.position image
-              uncut second w image is = OpensAt-uncut (promoted_holder second) w.primary.calls w.standby.position w.standby.position image (omega arith) is
+              uncut second w image is =
+                  OpensAt-like (promoted_holder second) (cut_at w.primary.calls w.standby.position) w.primary.calls w.standby.position image
+                  (sym (keyspace_after-cut_at-cut w.primary.calls w.standby.position w.standby.position (omega arith))) is

@@ -1,52 +1,29 @@
 -- What the reopening of a node that crashed does to the pair.
 use Rattle.std.proofs.Common.{cond, rules, le_refl, ◌≡◌, inl, inr, Bool, true, false, ◌&&◌, List, length, Result, Ok, Err, refl, sym, ap, subst, ◌∙◌, arith, true≢false, []}
-use Rattle.kv_types.specs.declared.refusal.Refusal.{Refusal}
-use Rattle.kv_types.specs.Keyspace.{play_all}
-use Rattle.kv_types.specs.declared.refusal.Refusal.TheVariants.{Fault, Memory}
-use Rattle.pmem.specs.Device.{State}
-use Rattle.pmem.specs.Crash.{image_of}
-use Rattle.model.specs.declared.group.Group.{Group}
+use Rattle.world.specs.Words.{Allowed, AreEnded, cut_at, delta_changes, entries_of, Event, Fault, Follows, Freed, Holder, Image, image_of, is_crashed, is_enabled, IsMapOf, IsOpening, IsOver, keyspace_after, layout_in, MachineCommitter, Memory, new_stream, Opening, play_all, Ready, RecallsEach, records, Refusal, RefusesReopening, Remembers, SequencerRefines, Sequencing, Shows, State, Step, Stream, torn, with_standby, World}
+use Rattle.world.proofs.Words.{IsKeyspace-keyspace_after}
 use Rattle.model.specs.declared.record.Role.TheVariants as role
-use Rattle.model.specs.Call.{cut_at, keyspace_after}
-use Rattle.model.specs.Group.{AreEnded, entries_of}
-use Rattle.model.specs.Image.{Image, IsMapOf}
-use Rattle.model.specs.Standing.{Holder}
 use Rattle.model.proofs.LayoutLemmas.{gaps_fit}
-use Rattle.model.proofs.CallsLemmas.{IsKeyspace-keyspace_after, keyspace_after-cut_at-position}
-use Rattle.mv_keyspace.specs.Table.{records}
-use Rattle.group_commit.specs.declared.stage.Stage.TheVariants.{Ready}
-use Rattle.redis_core.specs.Sequencing.{Sequencing}
-use Rattle.standby.specs.Following.{Follows}
-use Rattle.placing.specs.Read.{Shows}
-use Rattle.standby_stream.specs.declared.opening.Opening.{Opening}
-use Rattle.standby_stream.specs.Delta.{IsOpening, delta_changes}
-use Rattle.standby_stream.specs.Stream.{Stream, new_stream}
+use Rattle.model.proofs.CallsLemmas.{keyspace_after-cut_at-position}
 use Rattle.standby_stream.proofs.FitLemmas.{deltas_fit}
-use Rattle.wbl_engine.specs.declared.freeing.Freed.{Freed}
-use Rattle.wbl_engine.specs.Reopening.{RefusesReopening, layout_in}
-use Rattle.machine.specs.declared.event.Event.{Event}
 use Rattle.machine.specs.declared.event.Event.TheVariants as events
 use Rattle.machine.specs.declared.event.Node.TheVariants as node
-use Rattle.machine.specs.Event.{Allowed, Committer as MachineCommitter, World, Step, is_crashed, is_enabled, new_link, reopened_primary, reopened_standby, with_primary, with_standby, torn}
+use Rattle.machine.specs.Event.{reopened_primary, reopened_standby, with_primary}
 use Rattle.world.specs.Cause.{EndsBy, Stretch}
 use Rattle.world.specs.Committing.{CommittingRefines, next_primary, next_standby}
-use Rattle.node_steps.specs.GroupSpan.{AreGroupsOf}
 use Rattle.world.specs.Link.{LinkRefines}
-use Rattle.primary.specs.Recalling.{AreKeyspaces, RecallsEach, Remembers}
+use Rattle.primary.specs.Recalling.{AreKeyspaces}
 use Rattle.primary.proofs.KeptImages.{delta-leads, keeps-opened, recalls-of}
 use Rattle.primary.proofs.OpenedLemmas.{leads_to}
 use Rattle.world.specs.Recalling.{OpeningLeads, RemembersFor, past_of}
 use Rattle.world.proofs.AroundLemmas.{around-stands}
-use Rattle.world.proofs.RecallLemmas.{remembered-from}
-use Rattle.primary.specs.Resuming.{IsOver}
-use Rattle.connections.specs.Session.{SequencerRefines}
+use Rattle.world.proofs.RecallLemmas.{remembered-from, have_their_lines, in_order}
 use Rattle.world.specs.Standby.{Node, StandbyRefines, StandbyStands}
 use Rattle.world.specs.Pair.{Acts, AreLives, DownRefine, EitherRefines, IsCut, NodesRefine, Pair, PartsRefine, Steps, Lives, Serving, SurroundingsRefine, surroundings_of, surroundings_in}
 use Rattle.world.proofs.DownLemmas.{restart-refused}
 use Rattle.world.proofs.FormLemmas.{committing-nothing, leads-nothing}
-use Rattle.world.proofs.PairLemmas.{Led, cut-for, none-added, rests-primary, rests-standby, tells, moves-primary, moves-standby, does-step, steps-to}
+use Rattle.world.proofs.PairLemmas.{Led, cut-for, rests-primary, rests-standby, tells, moves-primary, moves-standby, does-step, steps-to, steps-only, cut-only}
 use Rattle.world.proofs.OpenedLemmas.{IsNotOpened, IsOpened, opened-breaks, opened-floor, opened-gaps, opened-limit, opened-moves, opened-rests, opened-stands, table-there}
-use Rattle.world.proofs.OpeningLemmas.{have_their_lines, in_order}
 use Rattle.world.proofs.PairLives.{stays-acts}
 use Rattle.world.proofs.PairStandby.{standby-either}
 use Rattle.world.proofs.LivesLemmas.{crashed-not-over, still-not-crashed, not-crashed, crashed-as}
@@ -54,6 +31,7 @@ use Rattle.world.specs.Condition.{has_crashed}
 use Rattle.world.specs.declared.condition.Condition.{Condition}
 use Rattle.world.specs.declared.condition.Condition.TheVariants.{Running}
 use Rattle.world.proofs.RemainLemmas.{near-from}
+use Rattle.world.proofs.LinkLemmas.{link-nothing}
 
 -- ---- a node that runs
 
@@ -76,7 +54,7 @@ with_standby_node node condition pair = record pair { standby = node; lives = re
 
 pub standby-reopens : (old : Pair) (node' : Node) → has_crashed old.lives.standby ≡ true → IsOpened role.Standby old.standby.device node'.device node'.contents node'.is_faulted
     → Follows node'.contents node'.table node'.room node'.ended → node'.epoch ≡ node'.contents.current.epoch → Acts old (events.Reopen node.Standby) (Ok true) (with_standby_node node' Running old)
-standby-reopens old node' fallen opened follows own = record { steps = steps; cut = tt; calls = none-added _ _ refl }
+standby-reopens old node' fallen opened follows own = steps-only steps refl
   where
     new : Pair
     new = with_standby_node node' Running old
@@ -116,7 +94,7 @@ opened-ends event refusal P is ends = subst (λ (r : Refusal). EndsBy r event P)
 pub standby-reopening-cut : (old : Pair) (node' : Node) (result : Result Bool Refusal) (refusal : Refusal) → result ≡ Err refusal → has_crashed old.lives.standby ≡ true → IsNotOpened role.Standby old.standby.device node'.device refusal
     → Acts old (events.Reopen node.Standby) result (with_standby_node node' old.lives.standby old)
 standby-reopening-cut old node' result refusal is fallen refused =
-    subst (λ (r : Result Bool Refusal). Acts old event r new) (sym is) (record { steps = tt; cut = cut; calls = none-added _ _ refl })
+    subst (λ (r : Result Bool Refusal). Acts old event r new) (sym is) (cut-only cut refl)
   where
     new : Pair
     new = with_standby_node node' old.lives.standby old
@@ -183,7 +161,7 @@ pub record Begins (serving : Serving) (link : Stream) (opening : Opening) : Type
 pub primary-reopens : (old : Pair) (serving : Serving) (link : Stream) (opening : Opening) → has_crashed old.lives.primary ≡ true
     → IsOpened role.Primary old.primary.device serving.device serving.contents serving.is_faulted → Begins serving link opening
     → Acts old (events.Reopen node.Primary) (Ok true) (with_opened_primary serving link opening old)
-primary-reopens old serving link opening fallen opened begins = record { steps = steps; cut = tt; calls = none-added _ _ refl }
+primary-reopens old serving link opening fallen opened begins = steps-only steps refl
   where
     new : Pair
     new = with_opened_primary serving link opening old
@@ -212,20 +190,7 @@ primary-reopens old serving link opening fallen opened begins = record { steps =
         subst (CommittingRefines calls serving.committing) (sym lost.committer)
         (committing-nothing calls p serving.committing begins.no_work begins.none_aside begins.ready (begins.local ∙ at.at)) in
         let linked : LinkRefines calls link serving.handed 0 w.primary.link =
-        subst (LinkRefines calls link serving.handed 0) (sym lost.link)
-        (subst (λ (s : Stream). LinkRefines calls s serving.handed 0 new_link) (sym begins.link_is)
-        (record {
-          waiting = subst (λ (groups : List Group). AreGroupsOf calls groups []) (sym begins.none_handed) tt;
-          none_pending = refl;
-          delta = tt;
-          kept = tt;
-          next_within = omega arith;
-          again = refl;
-          known = refl;
-          remote_is = refl;
-          copying_is = refl;
-          dropped_is = refl;
-        })) in
+        subst (LinkRefines calls link serving.handed 0) (sym lost.link) (link-nothing calls link serving.handed 0 serving.contents.current.epoch begins.none_handed begins.link_is refl) in
         let low = w.standby.position in
         let newest : serving.sequencer.newest ≡ p = ap (λ (s : Sequencing). s.newest) over.starts_so ∙ at.at in
         let past = past_of calls in
@@ -287,7 +252,7 @@ primary-reopens old serving link opening fallen opened begins = record { steps =
 pub primary-reopening-cut : (old : Pair) (serving : Serving) (result : Result Bool Refusal) (refusal : Refusal) → result ≡ Err refusal → has_crashed old.lives.primary ≡ true
     → IsNotOpened role.Primary old.primary.device serving.device refusal → Acts old (events.Reopen node.Primary) result (record old { primary = serving })
 primary-reopening-cut old serving result refusal is fallen refused =
-    subst (λ (r : Result Bool Refusal). Acts old event r new) (sym is) (record { steps = tt; cut = cut; calls = none-added _ _ refl })
+    subst (λ (r : Result Bool Refusal). Acts old event r new) (sym is) (cut-only cut refl)
   where
     new : Pair
     new = record old { primary = serving }

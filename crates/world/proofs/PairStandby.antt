@@ -1,28 +1,13 @@
 -- What the events of the standby do to the pair, of what they do to its parts.
 use Rattle.std.proofs.Common.{rules, ◌≡◌, ◌&&◌, inl, inr, ℕ, max, Bool, true, false, List, ◌∷◌, ◌++◌, length, slice_get, cond, Option, Some, None, Result, Ok, Err, IfOk, IfErr, OnErr, All, Vec, Global, ◌<◌, ◌≤◌, refl, sym, ap, subst, ◌∙◌, arith, le_refl, true≢false, ap₂, []}
-use Rattle.std.proofs.lemmas.Bool.{cases_lt, le-ltb, lt-ltb}
-use Rattle.kv_types.specs.declared.refusal.Refusal.{Refusal}
-use Rattle.kv_types.specs.declared.refusal.Refusal.TheVariants.{Memory, Fault, Exhausted}
-use Rattle.model.specs.Standing.{Holder}
+use Rattle.world.specs.Words.{Ack, Acknowledgement, acknowledgement_of, Call, changes_size, cut_at, delivered, Event, Exhausted, Fault, Frame, Goes, Happens, Holder, is_running, IsServed, keyspace_after, MAX_BODY_BYTES, may_happen, Memory, nodes_run, Opening, option_items, play_all, Refusal, Role, Sound, Span, Step, Stream, told, torn, with_acknowledged, with_link, with_standby, without_first, World}
+use Rattle.world.proofs.Words.{cases_lt, grows-step, le-ltb, lt-ltb}
 use Rattle.kv_types.specs.declared.change.Change.{Change}
-use Rattle.kv_types.specs.Change.{changes_size}
-use Rattle.kv_types.specs.Keyspace.{play_all}
-use Rattle.model.specs.Call.{cut_at, keyspace_after}
-use Rattle.frames.specs.declared.ack.Ack.{Ack}
-use Rattle.frames.specs.declared.frame.Frame.{Frame}
-use Rattle.standby_stream.specs.declared.opening.Opening.{Opening}
-use Rattle.standby_stream.specs.Delta.{IsDelta, IsServed}
-use Rattle.stream_codec.specs.declared.message.TheConstants.{MAX_BODY_BYTES}
-use Rattle.standby_stream.specs.Stream.{Stream}
-use Rattle.machine.specs.declared.event.Event.{Event}
+use Rattle.standby_stream.specs.Delta.{IsDelta}
 use Rattle.machine.specs.declared.event.Event.TheVariants as events
-use Rattle.model.specs.declared.call.Call.{Call}
-use Rattle.machine.specs.Event.{Happens, Role, World, Standby as MachineStandby, Acknowledgement, Span, Step, acknowledged_of, due_delta, due_from, is_running, nodes_run, may_happen, opened_link, opened_to, acknowledgement_of, delivered, option_items, told, with_link, with_standby, with_acknowledged, without_first, torn}
-use Rattle.machine.specs.Sound.{Sound}
-use Rattle.machine.proofs.GrowLemmas.{grows-step}
+use Rattle.machine.specs.Event.{Standby as MachineStandby, acknowledged_of, due_delta, due_from, opened_link, opened_to}
 use Rattle.world.proofs.AroundLemmas.{around-stands, around-standby}
 use Rattle.world.proofs.LivesLemmas.{Runs, enabled-is, lives-like, nodes-refine, not-crashed, not-over, running-as, serving, taken-life, taken-role, not-still, stopped-still}
-use Rattle.connections.specs.Going.{Goes}
 use Rattle.world.specs.Cause.{Stretch, Breaks, RestsAtFrameLimit, EndsBy, Resting}
 use Rattle.world.specs.Committing.{NearOnly, Moves, next_standby}
 use Rattle.world.specs.Following.{HasFollower}
@@ -31,10 +16,9 @@ use Rattle.world.specs.Recalling.{OpeningLeads, past_of}
 use Rattle.world.specs.Standby.{Arrived, Node, StandbyStands, StandbyRefines, ArrivalsRefine, AppliesFirst, told_by}
 use Rattle.world.specs.Pair.{Pair, EitherRefines, NodesRefine, PartsRefine, PairRefines, Steps, Acts, Does, Wire, AroundRefines}
 use Rattle.world.proofs.FrameLemmas.{length-sent}
-use Rattle.world.proofs.PairLemmas.{Led, cut-for, cut-same, goes-either, goes-map, goes-steps, none-added, rests-primary, tells, moves-standby, does-step, steps-to, steps-none}
+use Rattle.world.proofs.PairLemmas.{Led, cut-for, cut-same, goes-either, goes-map, goes-steps, rests-primary, tells, moves-standby, does-step, steps-to, steps-none, steps-only, cut-only}
 use Rattle.world.proofs.PairLink.{link-alone}
-use Rattle.world.proofs.OpeningLemmas.{opening-on}
-use Rattle.world.proofs.RecallLemmas.{recalled-on, remembered-on}
+use Rattle.world.proofs.RecallLemmas.{opening-on, recalled-on, remembered-on}
 use Rattle.world.specs.Condition.{has_ended, runs}
 use Rattle.world.specs.declared.condition.Condition.{Condition}
 use Rattle.world.proofs.RemainLemmas.{near-from, left-later}
@@ -177,55 +161,47 @@ pub open-does : (old : Pair) (arrivals : Arrived) (link : Stream) (opening : Ope
     → opening ≡ old.wire.opening → Does old events.OpenLink (Ok true) (with_opened arrivals link opening old)
 open-does old arrivals link opening ack follows is acknowledges reopens same =
     subst (λ (o : Opening). Does old events.OpenLink (Ok true) (with_opened arrivals link o old)) (sym same)
-    (record {
-      steps = λ first second w stands.
-          let parts = stands.parts in
-          let epoch : ack.epoch ≡ w.standby.epoch = ap (λ (a : Ack). a.epoch) is ∙ own-epoch first second old w follows (nodes-refine stands) in
-          let position : ack.position ≡ w.standby.position = own-position old ack follows is stands in
-          let own : told_by ack ≡ acknowledgement_of w.standby = ap₂ (λ e p. record { epoch = e; position = p }) epoch position in
-          let told = acknowledges old.wire.link.epoch w parts.arrivals own in
-          let w' = with_acknowledged (acknowledgement_of w.standby ∷ []) w in
-          let around : AroundRefines second (with_arrivals arrivals old) w' =
-          around-standby parts.around (not-over old.lives.standby follows) arrivals old.standby old.lives.standby w.standby.waiting w.standby.position (torn w.standby.life) (w.wire.acknowledgements ++ acknowledgement_of w.standby ∷ []) told parts.standby in
-          let heard : PartsRefine first second (with_arrivals arrivals old) w' = search (rules, around, parts) in
-          let reopened = reopens-due old.wire.link old.wire.opening ack.position link (known-within old ack follows is stands) reopens in
-          let delta : Option Frame = reopened.0 in
-          let machine = opened_link (due_delta w.standby.position (due_from w.primary)) w.primary.link in
-          let due : max w.primary.opened w.primary.link.dropped ≡ w.primary.opened = omega (arith, parts.link.dropped_is) in
-          let opened : LinkRefines w.primary.calls (record old.wire.link { next = 0; delta = delta }) old.primary.handed old.wire.remote machine = record {
-            waiting = parts.link.waiting;
-            none_pending = parts.link.none_pending;
-            delta = subst (λ from. AreFramesOf old.wire.link.epoch w.primary.calls (option_items delta) (due_delta w.standby.position from)) (sym due)
-                (delta-frames old.wire.link.epoch w.standby.position w.primary.opened w.primary.calls old.wire.opening delta parts.opening
-                (subst (λ p. IsDue old.wire.link.epoch old.wire.opening p delta) position reopened.1));
-            kept = parts.link.kept;
-            next_within = omega arith;
-            again = refl;
-            known = parts.link.known;
-            remote_is = parts.link.remote_is;
-            copying_is = refl;
-            dropped_is = parts.link.dropped_is;
-          } in
-          let moved = link-alone first second (with_arrivals arrivals old) old.primary.handed link old.wire.remote w' machine heard (ap (λ (s : Stream). s.epoch) reopened.2)
-          (subst (λ (s : Stream). LinkRefines w.primary.calls s old.primary.handed old.wire.remote machine) (sym reopened.2) opened) in
-          goes-steps first second w (with_link machine w') events.OpenLink true old (with_opened arrivals link old.wire.opening old) refl refl (nodes-refine stands) (both-run follows stands) stands.serves refl
-          (ap (λ (role : Role). with_link (opened_to role w.standby.position w.primary) (with_acknowledged (acknowledged_of role w.standby) w)) (sym stands.lives.follows))
-          (record { done = refl; goes = λ did. moved; stays = λ did. absurd (true≢false did) });
-      cut = tt;
-      calls = none-added _ _ refl;
-    })
+    (steps-only (λ first second w stands.
+    let parts = stands.parts in
+    let epoch : ack.epoch ≡ w.standby.epoch = ap (λ (a : Ack). a.epoch) is ∙ own-epoch first second old w follows (nodes-refine stands) in
+    let position : ack.position ≡ w.standby.position = own-position old ack follows is stands in
+    let own : told_by ack ≡ acknowledgement_of w.standby = ap₂ (λ e p. record { epoch = e; position = p }) epoch position in
+    let told = acknowledges old.wire.link.epoch w parts.arrivals own in
+    let w' = with_acknowledged (acknowledgement_of w.standby ∷ []) w in
+    let around : AroundRefines second (with_arrivals arrivals old) w' =
+    around-standby parts.around (not-over old.lives.standby follows) arrivals old.standby old.lives.standby w.standby.waiting w.standby.position (torn w.standby.life) (w.wire.acknowledgements ++ acknowledgement_of w.standby ∷ []) told parts.standby in
+    let heard : PartsRefine first second (with_arrivals arrivals old) w' = search (rules, around, parts) in
+    let reopened = reopens-due old.wire.link old.wire.opening ack.position link (known-within old ack follows is stands) reopens in
+    let delta : Option Frame = reopened.0 in
+    let machine = opened_link (due_delta w.standby.position (due_from w.primary)) w.primary.link in
+    let due : max w.primary.opened w.primary.link.dropped ≡ w.primary.opened = omega (arith, parts.link.dropped_is) in
+    let opened : LinkRefines w.primary.calls (record old.wire.link { next = 0; delta = delta }) old.primary.handed old.wire.remote machine = record {
+      waiting = parts.link.waiting;
+      none_pending = parts.link.none_pending;
+      delta = subst (λ from. AreFramesOf old.wire.link.epoch w.primary.calls (option_items delta) (due_delta w.standby.position from)) (sym due)
+          (delta-frames old.wire.link.epoch w.standby.position w.primary.opened w.primary.calls old.wire.opening delta parts.opening
+          (subst (λ p. IsDue old.wire.link.epoch old.wire.opening p delta) position reopened.1));
+      kept = parts.link.kept;
+      next_within = omega arith;
+      again = refl;
+      known = parts.link.known;
+      remote_is = parts.link.remote_is;
+      copying_is = refl;
+      dropped_is = parts.link.dropped_is;
+    } in
+    let moved = link-alone first second (with_arrivals arrivals old) old.primary.handed link old.wire.remote w' machine heard (ap (λ (s : Stream). s.epoch) reopened.2)
+    (subst (λ (s : Stream). LinkRefines w.primary.calls s old.primary.handed old.wire.remote machine) (sym reopened.2) opened) in
+    goes-steps first second w (with_link machine w') events.OpenLink true old (with_opened arrivals link old.wire.opening old) refl refl (nodes-refine stands) (both-run follows stands) stands.serves refl
+    (ap (λ (role : Role). with_link (opened_to role w.standby.position w.primary) (with_acknowledged (acknowledged_of role w.standby) w)) (sym stands.lives.follows))
+    (record { done = refl; goes = λ did. moved; stays = λ did. absurd (true≢false did) })) refl)
 
 -- memory was refused
 open-lacks : (old : Pair) (wire : Wire) (result : Result Bool Refusal) (refusal : Refusal) → runs old.lives.standby ≡ true → result ≡ Err refusal
     → ((first second : Holder) (w : World) → PairRefines first second old w → refusal ≡ Memory) → Does old events.OpenLink result (record old { wire = wire })
 open-lacks old wire result refusal follows is memory =
     subst (λ (r : Result Bool Refusal). Does old events.OpenLink r (record old { wire = wire })) (sym is)
-    (record {
-      steps = tt;
-      cut = λ first second w stands.
-          cut-same first second events.OpenLink refusal old (record old { wire = wire }) w refl (memory first second w stands) refl refl (tells old.clients.transcript) refl (both-run follows stands) refl (nodes-refine stands);
-      calls = none-added _ _ refl;
-    })
+    (cut-only (λ first second w stands.
+    cut-same first second events.OpenLink refusal old (record old { wire = wire }) w refl (memory first second w stands) refl refl (tells old.clients.transcript) refl (both-run follows stands) refl (nodes-refine stands)) refl)
 
 -- for the acknowledgement
 pub open-cut : (old : Pair) (wire : Wire) (result : Result Bool Refusal) (refusal : Refusal) → runs old.lives.standby ≡ true → result ≡ Err refusal → refusal ≡ Memory
@@ -253,32 +229,24 @@ pub deliver-acts : (old : Pair) (arrivals : Arrived) (texts : List (Vec ℕ Glob
     → IfErr result (λ refusal. (epoch : ℕ) (w : World) → AreFramesSent epoch w.primary.calls texts w.wire.frames → refusal ≡ Memory) → OnErr result (frame < length texts)
     → Acts old (events.Deliver frame piece) result (with_arrivals arrivals old)
 deliver-acts old arrivals texts frame piece (Ok did) follows same go memory some =
-    record {
-      steps = λ first second w stands.
-          let parts = stands.parts in
-          let around = around-stands parts in
-          let epoch = old.wire.link.epoch in
-          let calls = w.primary.calls in
-          let came = delivered (option_items (slice_get w.wire.frames frame)) w.standby in
-          goes-either first second w (with_standby came w) (events.Deliver frame piece) did old (with_arrivals arrivals old) refl refl stands
-          (standby-runs follows stands (events.Deliver frame piece) (λ runs. runs)) refl refl
-          (goes-map (go epoch w around.arrivals (subst (λ (all : List (Vec ℕ Global)). AreFramesSent epoch calls all w.wire.frames) (sym same) around.frames) (owns follows parts))
-          (λ moved. standby-either first second old arrivals old.standby old.lives.standby w came w.wire.acknowledgements (not-over old.lives.standby follows) (le_refl w.standby.position) parts moved around.standby)
-          (λ stayed. standby-either first second old arrivals old.standby old.lives.standby w w.standby w.wire.acknowledgements (not-over old.lives.standby follows) (le_refl w.standby.position) parts stayed around.standby));
-      cut = tt;
-      calls = none-added _ _ refl;
-    }
+    steps-only (λ first second w stands.
+    let parts = stands.parts in
+    let around = around-stands parts in
+    let epoch = old.wire.link.epoch in
+    let calls = w.primary.calls in
+    let came = delivered (option_items (slice_get w.wire.frames frame)) w.standby in
+    goes-either first second w (with_standby came w) (events.Deliver frame piece) did old (with_arrivals arrivals old) refl refl stands
+    (standby-runs follows stands (events.Deliver frame piece) (λ runs. runs)) refl refl
+    (goes-map (go epoch w around.arrivals (subst (λ (all : List (Vec ℕ Global)). AreFramesSent epoch calls all w.wire.frames) (sym same) around.frames) (owns follows parts))
+    (λ moved. standby-either first second old arrivals old.standby old.lives.standby w came w.wire.acknowledgements (not-over old.lives.standby follows) (le_refl w.standby.position) parts moved around.standby)
+    (λ stayed. standby-either first second old arrivals old.standby old.lives.standby w w.standby w.wire.acknowledgements (not-over old.lives.standby follows) (le_refl w.standby.position) parts stayed around.standby))) refl
 deliver-acts old arrivals texts frame piece (Err refusal) follows same go memory some =
-    record {
-      steps = tt;
-      cut = λ first second w stands.
-          let sent = (around-stands stands.parts).frames in
-          let is : frame < length w.wire.frames = omega (arith, some, ap length same, length-sent old.wire.link.epoch w.primary.calls old.wire.frames w.wire.frames sent) in
-          let refused : refusal ≡ Memory = memory old.wire.link.epoch w (subst (λ (all : List (Vec ℕ Global)). AreFramesSent old.wire.link.epoch w.primary.calls all w.wire.frames) (sym same) sent) in
-          cut-same first second (events.Deliver frame piece) refusal old (with_arrivals arrivals old) w refl refused refl refl (tells old.clients.transcript) refl
-          (standby-runs follows stands (events.Deliver frame piece) (λ runs. runs)) (lt-ltb frame (length w.wire.frames) is) stands;
-      calls = none-added _ _ refl;
-    }
+    cut-only (λ first second w stands.
+    let sent = (around-stands stands.parts).frames in
+    let is : frame < length w.wire.frames = omega (arith, some, ap length same, length-sent old.wire.link.epoch w.primary.calls old.wire.frames w.wire.frames sent) in
+    let refused : refusal ≡ Memory = memory old.wire.link.epoch w (subst (λ (all : List (Vec ℕ Global)). AreFramesSent old.wire.link.epoch w.primary.calls all w.wire.frames) (sym same) sent) in
+    cut-same first second (events.Deliver frame piece) refusal old (with_arrivals arrivals old) w refl refused refl refl (tells old.clients.transcript) refl
+    (standby-runs follows stands (events.Deliver frame piece) (λ runs. runs)) (lt-ltb frame (length w.wire.frames) is) stands) refl
 
 abbrev pub with_node : Arrived → Node → Pair → Pair
 with_node arrivals node pair = record pair { wire = record pair.wire { arrivals = arrivals }; standby = node }
@@ -353,22 +321,14 @@ apply-acts old arrivals node result follows applies only cuts = go result applie
         → (may_happen w events.Apply ≡ true) × EndsBy refusal events.Apply (λ _ last. last holder w.primary.calls w.standby.position (next_standby w) old.standby.device node.device))
         → Acts old events.Apply result (with_node arrivals node old)
     go (Ok did) applies cuts =
-        record {
-          steps = λ first second w stands.
-              let applied = applies second w stands.sound (has-follower first second old w follows stands) (arrive first second w stands) (stand first second w stands) in
-              apply-steps first second old arrivals node w did follows stands
-              (subst (λ e. AppliesFirst second e w did arrivals old.standby node) (follower follows stands.parts).epoch_is applied);
-          cut = tt;
-          calls = none-added _ _ refl;
-        }
+        steps-only (λ first second w stands.
+        let applied = applies second w stands.sound (has-follower first second old w follows stands) (arrive first second w stands) (stand first second w stands) in
+        apply-steps first second old arrivals node w did follows stands
+        (subst (λ e. AppliesFirst second e w did arrivals old.standby node) (follower follows stands.parts).epoch_is applied)) refl
     go (Err refusal) applies cuts =
-        record {
-          steps = tt;
-          cut = λ first second w stands.
-              let new = with_node arrivals node old in
-              let cut = cuts second w stands.sound (has-follower first second old w follows stands) (arrive first second w stands) (stand first second w stands) in
-              cut-for first second events.Apply refusal old new w stands (tells old.clients.transcript) refl (enabled-is (standby-runs follows stands events.Apply (λ runs. runs)) ∙ cut.0)
-              (ends-apply refusal (λ _ last. last second w.primary.calls w.standby.position (next_standby w) old.standby.device node.device) (Led first second old new w)
-              (λ last broken. (rests-primary first second old w stands, λ whole. inl broken)) cut.1);
-          calls = none-added _ _ refl;
-        }
+        cut-only (λ first second w stands.
+        let new = with_node arrivals node old in
+        let cut = cuts second w stands.sound (has-follower first second old w follows stands) (arrive first second w stands) (stand first second w stands) in
+        cut-for first second events.Apply refusal old new w stands (tells old.clients.transcript) refl (enabled-is (standby-runs follows stands events.Apply (λ runs. runs)) ∙ cut.0)
+        (ends-apply refusal (λ _ last. last second w.primary.calls w.standby.position (next_standby w) old.standby.device node.device) (Led first second old new w)
+        (λ last broken. (rests-primary first second old w stands, λ whole. inl broken)) cut.1)) refl

@@ -1,23 +1,12 @@
 -- What the committer's step does to the pair, whichever is due.
 use Rattle.std.proofs.Common.{◌≡◌, ◌≢◌, ℕ, Bool, true, false, List, [], ◌++◌, Result, Ok, Err, inl, inr, refl, sym, ap, subst, ◌∙◌, true≢false, append-nil}
-use Rattle.pmem.specs.Device.{State}
-use Rattle.kv_types.specs.declared.refusal.Refusal.{Refusal}
-use Rattle.kv_types.specs.declared.refusal.Refusal.TheVariants.{Memory}
-use Rattle.pipes.specs.Waiting.{Waiting}
-use Rattle.model.specs.declared.group.Group.{Group}
-use Rattle.model.specs.declared.work.Work.{Work}
-use Rattle.model.specs.Group.{Contents}
-use Rattle.wbl_engine.specs.declared.freeing.Freed.{Freed}
-use Rattle.group_commit.specs.Due.{due_now}
-use Rattle.group_commit.specs.declared.committer.Committer.{Committer}
-use Rattle.group_commit.specs.declared.due.Due.{Due}
+use Rattle.world.specs.Words.{Committer, Contents, Done, Due, due_now, Freed, Group, Memory, notices_of, Refusal, State, Waiting, Work}
 use Rattle.group_commit.specs.declared.due.Due.TheVariants as due
-use Rattle.group_commit.specs.declared.stage.Done.{Done}
-use Rattle.primary.specs.Standing.{notices_of}
+use Rattle.group_commit.proofs.TurnLemmas.{hands-beside}
 use Rattle.world.specs.Committing.{event_of, frees_places, link_has_room}
 use Rattle.world.specs.Pair.{Does, Pair}
 use Rattle.world.specs.Step.{Leaves, has_begun}
-use Rattle.world.proofs.PairTurns.{Took, pair_of, pair_with, commit-does, commit-stays, hand-does-so, hand-leaves, hand-stays, raise-does-so, raise-leaves, raise-stays, went}
+use Rattle.world.proofs.PairTurns.{Took, link_room, pair_of, pair_with, commit-does, commit-stays, hand-does-so, hand-leaves, hand-stays, raise-does-so, raise-leaves, raise-stays, went}
 use Rattle.world.proofs.PairClearing.{clear-done, clear-ends, clear-idle, clear-roomless}
 use Rattle.world.proofs.PairFreeing.{free-done, free-ends, free-idle, free-roomless}
 
@@ -36,9 +25,9 @@ module _ {E : Type 0} (device : E → State) (contents : E → Contents) (is_fau
   none-noted due.Commit (Err refusal) some none took = refl
   none-noted due.Commit (Ok came) some none (offered, inr lacks) = absurd (let no = lacks.answer in cc)
   none-noted due.Raise result some none took = ap noted took.2.answer
-  none-noted due.Hand result some none took = elim took.1.came [
-    | inl on ↦ ap noted on.0
-    | inr full ↦ ap noted full.0
+  none-noted due.Hand result some none took = elim (hands-beside device contents is_faulted (λ (pipe : Waiting Group). pipe.items) link_room before after handed handed' result took.1).answer [
+    | inl on ↦ ap noted on
+    | inr idle ↦ ap noted idle
   ]
   none-noted due.Free result some none took = absurd (true≢false none)
   none-noted due.Clear result some none took = absurd (true≢false none)

@@ -1,50 +1,30 @@
 -- What the turns of the committer do to the pair: its own clauses refine the machine's events.
-use Rattle.std.proofs.Common.{rules, ◌≡◌, ◌⊎◌, ◌-◌, ◌≤◌, ℕ, Bool, true, false, nat_lt, List, ◌∷◌, ◌++◌, length, Result, Ok, Err, inl, inr, refl, sym, ap, subst, ◌∙◌, arith, []}
-use Rattle.std.proofs.lemmas.Bool.{cases_lt, le-ltb, lt-ltb}
+use Rattle.std.proofs.Common.{rules, ◌≡◌, ◌⊎◌, ◌-◌, ◌≤◌, ℕ, Bool, true, false, nat_lt, List, ◌∷◌, ◌++◌, length, min, Result, Ok, Err, inl, inr, refl, sym, ap, subst, ◌∙◌, arith, []}
+use Rattle.world.specs.Words.{committed_first, Committer, Contents, Done, Due, due_now, Durable, Event, Exhausts, Freed, FreeList, from_group, Group, Holder, LeavesOnly, MachineCommitter, may_happen, Memory, PIPE_ITEMS, Ready, Record, Refusal, Same, SequencerRefines, Shown, State, Waiting, with_committer, Work, World}
+use Rattle.world.proofs.Words.{cases_lt, group_lawful, le-ltb, LeavesOnly-weaken, lt-ltb}
+use Rattle.std.proofs.Math.Nat.{min-eq_left, min-le_left, min-le_right}
 use Rattle.std.specs.Coded.{le_prop}
-use Rattle.pmem.specs.Device.{State}
-use Rattle.pmem.specs.Runs.{LeavesOnly}
-use Rattle.pmem.proofs.Leaving.{LeavesOnly-weaken}
-use Rattle.kv_types.specs.declared.refusal.Refusal.{Refusal}
-use Rattle.kv_types.specs.declared.refusal.Refusal.TheVariants.{Memory}
-use Rattle.pipes.specs.Waiting.{Waiting}
 use Rattle.pipes.specs.declared.limits.TheConstants as limits
-use Rattle.model.specs.declared.group.Group.{Group}
-use Rattle.model.specs.declared.record.Record.{Record}
-use Rattle.model.specs.declared.work.FreeList.{FreeList}
-use Rattle.model.specs.declared.work.Work.{Work}
-use Rattle.model.specs.Group.{Contents}
-use Rattle.model.specs.Standing.{Holder}
-use Rattle.wbl_engine.specs.Contents.{Exhausts, Same}
-use Rattle.wbl_engine.proofs.LawfulLemmas.{group_lawful}
-use Rattle.wbl_engine.specs.declared.freeing.Freed.{Freed}
-use Rattle.group_commit.specs.Committing.{Commits, raised, ready_again}
-use Rattle.group_commit.specs.Due.{due_now}
-use Rattle.group_commit.specs.Working.{LacksRoom, TakesGroup, Takes}
-use Rattle.group_commit.specs.declared.committer.Committer.{Committer}
-use Rattle.group_commit.specs.declared.due.Due.{Due}
+use Rattle.group_commit.specs.Committing.{raised, ready_again}
+use Rattle.group_commit.specs.Working.{HandsFirst, LacksRoom, Takes}
 use Rattle.group_commit.specs.declared.due.Due.TheVariants as due
-use Rattle.group_commit.specs.declared.stage.Done.{Done}
-use Rattle.group_commit.specs.declared.stage.Done.TheVariants.{Handed, Idle}
-use Rattle.group_commit.specs.declared.stage.Stage.TheVariants.{Ready, Durable, Shown}
+use Rattle.group_commit.specs.declared.stage.Done.TheVariants.{Idle}
 use Rattle.group_commit.proofs.DueLemmas.{hand-now, raise-now}
+use Rattle.group_commit.proofs.TurnLemmas.{hands-beside}
 use Rattle.machine.specs.declared.event.Cut.TheVariants as cut
-use Rattle.machine.specs.declared.event.TheConstants.{PIPE_ITEMS}
-use Rattle.machine.specs.declared.event.Event.{Event}
 use Rattle.machine.specs.declared.event.Event.TheVariants as events
-use Rattle.machine.specs.Event.{World, Committer as MachineCommitter, committed_first, from_group, may_happen, with_committer}
 use Rattle.world.specs.Committing.{EngineStands, CommittingRefines, link_has_room, next_primary}
 use Rattle.world.proofs.FreeingLemmas.{primary-steps}
 use Rattle.world.proofs.RecallLemmas.{recalled-each}
 use Rattle.world.specs.Recalling.{RemembersFor, past_of}
-use Rattle.connections.specs.Session.{SequencerRefines}
 use Rattle.world.specs.Pair.{FreeingRefines, Pair, PartsRefine, PairRefines, Steps, Does}
 use Rattle.world.specs.Parts.{serving_by}
-use Rattle.world.proofs.CommittingLemmas.{Leads-committed, Remembers-committed, TakesLawful, commit-ends, commit-goes, commit-lands, commit-moments, hand-goes, hand-none, hand-room, made, made-lawful, raise-goes, raise-none, takes-lawful}
+use Rattle.world.proofs.CommittingLemmas.{Leads-committed, Remembers-committed, TakesLawful, commit-ends, commit-goes, commit-lands, commit-moments, hand-goes, hand-none, hand-room, made, made-lawful, none-shown, raise-goes, raise-none, takes-lawful}
+use Rattle.world.proofs.OneGroupLemmas.{Commits, TakesGroup, takes-one}
 use Rattle.world.specs.Remaining.{LeftBy}
 use Rattle.world.proofs.LeftLemmas.{left-next, left-running, left-still}
 use Rattle.world.proofs.LivesLemmas.{enabled-is, nodes-refine, own-runs, serving}
-use Rattle.world.proofs.PairLemmas.{Led, cut-for, cut-same, none-added, rests-standby, stays-does, tells}
+use Rattle.world.proofs.PairLemmas.{Led, cut-for, cut-same, rests-standby, stays-does, tells, steps-only, cut-only}
 use Rattle.world.proofs.PairCommitting.{ends-commit, hand-does, raise-does, same_closed}
 use Rattle.world.proofs.QueueLemmas.{commit-disabled, commit-enabled}
 
@@ -64,24 +44,34 @@ Waiting-same a b same =
 
 -- ---- the room of the link
 
--- a pipe has room for another group, or none is left
-room-of : (n : ℕ) → nat_lt 0 (PIPE_ITEMS - n) ≡ nat_lt n PIPE_ITEMS
+-- how many groups the pipe to the link tells the committer that it has room for
+abbrev pub link_room : Waiting Group → ℕ
+link_room pipe = min 1 (PIPE_ITEMS - length pipe.items)
+
+-- it has room for another group, or none is left
+room-of : (n : ℕ) → nat_lt 0 (min 1 (PIPE_ITEMS - n)) ≡ nat_lt n PIPE_ITEMS
 room-of n = elim (cases_lt n PIPE_ITEMS) [
-  | inl some ↦ lt-ltb 0 (PIPE_ITEMS - n) (omega (arith, some)) ∙ sym (lt-ltb n PIPE_ITEMS some)
-  | inr full ↦ le-ltb 0 (PIPE_ITEMS - n) (omega (arith, full)) ∙ sym (le-ltb n PIPE_ITEMS full)
+  | inl some ↦ ap (nat_lt 0) (min-eq_left {n = 1} {m = PIPE_ITEMS - n} (omega (arith, some))) ∙ sym (lt-ltb n PIPE_ITEMS some)
+  | inr full ↦ le-ltb 0 (min 1 (PIPE_ITEMS - n)) (omega (arith, full, min-le_right 1 (PIPE_ITEMS - n))) ∙ sym (le-ltb n PIPE_ITEMS full)
+]
+
+none-known : (n : ℕ) → min 1 (PIPE_ITEMS - n) ≡ 0 → PIPE_ITEMS ≤ n
+none-known n none = elim (cases_lt n PIPE_ITEMS) [
+  | inl some ↦ absurd (let one : min 1 (PIPE_ITEMS - n) ≡ 1 = min-eq_left {n = 1} {m = PIPE_ITEMS - n} (omega (arith, some)) in omega (arith, one, none))
+  | inr full ↦ full
 ]
 
 module _ {E : Type 0} (device : E → State) (contents : E → Contents) (is_faulted : E → Bool) where
-  -- what a turn came to, whose link is a pipe of this thread
+  -- what a turn came to, whose link is a pipe of this thread, with room for one group at most
   abbrev pub Took : Due → Bool → ℕ → Committer E → Waiting Work → Waiting Group → Result Done Refusal → Committer E → Waiting Work → Waiting Group → Type 0
-  Took = Takes device contents is_faulted (λ (pipe : Waiting Group). pipe.items) (λ (pipe : Waiting Group). PIPE_ITEMS - length pipe.items)
+  Took = Takes device contents is_faulted (λ (pipe : Waiting Group). pipe.items) link_room
 
   module _ (remote : ℕ) (before after : Committer E) (works works' : Waiting Work) (handed handed' : Waiting Group) (result : Result Done Refusal) where
     -- with no group in hand, none is handed on
     none-handed : (step : Due) (room : Bool) → before.stage ≡ Ready → Took step room remote before works handed result after works' handed' → handed'.items ≡ handed.items
     none-handed due.Commit room ready (none, took) = none.offered_is
     none-handed due.Raise room ready (same, queue, raises) = ap (λ (pipe : Waiting Group). pipe.items) same
-    none-handed due.Hand room ready (queue, hands) = absurd (let in_hand = sym ready ∙ hands.in_hand in cc)
+    none-handed due.Hand room ready (queue, hands) = absurd (let in_hand = sym ready ∙ hands.were in cc)
     none-handed due.Free room ready (none, took) = none.offered_is
     none-handed due.Clear room ready (none, queue, took) = none.offered_is
     none-handed due.Nothing room ready (none, queue, answer, same) = none.offered_is
@@ -90,38 +80,35 @@ module _ {E : Type 0} (device : E → State) (contents : E → Contents) (is_fau
     now room = due_now contents before works room remote
 
     -- the step that is due by the room that there was
-    took-due : Took (now (nat_lt 0 (PIPE_ITEMS - length handed'.items))) (nat_lt 0 (PIPE_ITEMS - length handed'.items)) remote before works handed result after works' handed'
+    took-due : Took (now (nat_lt 0 (link_room handed'))) (nat_lt 0 (link_room handed')) remote before works handed result after works' handed'
         → Took (now (link_has_room handed.items)) (link_has_room handed.items) remote before works handed result after works' handed'
     took-due took = elim before.stage as (λ stage. before.stage ≡ stage → Took (now (link_has_room handed.items)) (link_has_room handed.items) remote before works handed result after works' handed') [
       | Ready ↦ λ ready.
-          let same : nat_lt 0 (PIPE_ITEMS - length handed'.items) ≡ link_has_room handed.items =
-          room-of (length handed'.items) ∙ ap link_has_room (none-handed (now (nat_lt 0 (PIPE_ITEMS - length handed'.items))) (nat_lt 0 (PIPE_ITEMS - length handed'.items)) ready took) in
+          let same : nat_lt 0 (link_room handed') ≡ link_has_room handed.items =
+          room-of (length handed'.items) ∙ ap link_has_room (none-handed (now (nat_lt 0 (link_room handed'))) (nat_lt 0 (link_room handed')) ready took) in
           subst (λ (room : Bool). Took (now room) room remote before works handed result after works' handed') same took
-      | Durable group ↦ λ durable. subst in_room (sym (raise-now contents before works (link_has_room handed.items) remote group durable))
-          (subst by_room (raise-now contents before works (nat_lt 0 (PIPE_ITEMS - length handed'.items)) remote group durable) took)
-      | Shown group ↦ λ shown. subst in_room (sym (hand-now contents before works (link_has_room handed.items) remote group shown))
-          (subst by_room (hand-now contents before works (nat_lt 0 (PIPE_ITEMS - length handed'.items)) remote group shown) took)
+      | Durable groups ↦ λ durable. subst in_room (sym (raise-now contents before works (link_has_room handed.items) remote groups durable))
+          (subst by_room (raise-now contents before works (nat_lt 0 (link_room handed')) remote groups durable) took)
+      | Shown groups ↦ λ shown. subst in_room (sym (hand-now contents before works (link_has_room handed.items) remote groups shown))
+          (subst by_room (hand-now contents before works (nat_lt 0 (link_room handed')) remote groups shown) took)
     ] refl
       where
         in_room : Due → Type 0
         in_room step = Took step (link_has_room handed.items) remote before works handed result after works' handed'
 
         by_room : Due → Type 0
-        by_room step = Took step (nat_lt 0 (PIPE_ITEMS - length handed'.items)) remote before works handed result after works' handed'
+        by_room step = Took step (nat_lt 0 (link_room handed')) remote before works handed result after works' handed'
 
     -- neither touches the device
     pub raise-leaves : Took due.Raise (link_has_room handed.items) remote before works handed result after works' handed' → device after.engine ≡ device before.engine
     raise-leaves took = ap (λ (k : Committer E). device k.engine) took.2.now
 
     pub hand-leaves : Took due.Hand (link_has_room handed.items) remote before works handed result after works' handed' → device after.engine ≡ device before.engine
-    hand-leaves took = elim took.1.came [
-      | inl handed ↦ ap (λ (k : Committer E). device k.engine) handed.1
-      | inr idle ↦ ap (λ (k : Committer E). device k.engine) idle.1
-    ]
+    hand-leaves took = ap device (hands-beside device contents is_faulted (λ (pipe : Waiting Group). pipe.items) link_room before after handed handed' result took.1).engine
 
     -- it was taken
     pub took-step : (step : Due) → now (link_has_room handed.items) ≡ step
-        → Took (now (nat_lt 0 (PIPE_ITEMS - length handed'.items))) (nat_lt 0 (PIPE_ITEMS - length handed'.items)) remote before works handed result after works' handed'
+        → Took (now (nat_lt 0 (link_room handed'))) (nat_lt 0 (link_room handed')) remote before works handed result after works' handed'
         → Took step (link_has_room handed.items) remote before works handed result after works' handed'
     took-step step is took = subst (λ (step : Due). Took step (link_has_room handed.items) remote before works handed result after works' handed') is (took-due took)
 
@@ -156,7 +143,7 @@ module _ {E : Type 0} (device : E → State) (contents : E → Contents) (is_fau
   committed : (before after : Committer E) (works works' : Waiting Work) (handed : Waiting Group) (done : Done) → now-due before works handed ≡ due.Commit
       → TakesGroup device contents is_faulted pair.wire.remote before works (Ok done) after works' → Does (pair_of before works handed) events.Commit (Ok true) (pair_of after works' handed)
   committed before after works works' handed done is took =
-      record { steps = steps; cut = tt; calls = none-added _ _ refl }
+      (steps-only steps refl)
     where
       old : Pair
       old = pair_of before works handed
@@ -179,13 +166,13 @@ module _ {E : Type 0} (device : E → State) (contents : E → Contents) (is_fau
           → PartsRefine first second new (with_committer committer w)
       parts-after first second w committer parts takes stand closed remembers =
           let freeing : FreeingRefines new.primary.sequencer new.primary.notices new.primary.contents w.primary =
-          record { ended = parts.freeing.ended; newest = parts.freeing.newest; notices_are = parts.freeing.notices_are; gaps = ap (λ (r : Record). length r.gaps.items) took.commits.moved.current ∙ parts.freeing.gaps } in
+          record { ended = parts.freeing.ended; newest = parts.freeing.newest; notices_are = parts.freeing.notices_are; gaps = ap (λ (r : Record). length r.gaps.items) took.commits.of_all.moved.current ∙ parts.freeing.gaps } in
           search (
             rules,
             parts,
             stand,
             subst (λ n. SequencerRefines w.primary.calls n pair.primary.sequencer) (sym closed) parts.sequencer,
-            Leads-committed pair.wire.remote old.primary.contents new.primary.contents old.primary.committing took.lists took.group new.primary.committing pair.primary.sequencer pair.primary.notices parts.engine.contents_at.consistent takes took.commits.moved parts.leads,
+            Leads-committed pair.wire.remote old.primary.contents new.primary.contents old.primary.committing took.lists took.group new.primary.committing pair.primary.sequencer pair.primary.notices parts.engine.contents_at.consistent takes took.commits.of_all.moved parts.leads,
             freeing,
             remembers,
           )
@@ -197,48 +184,40 @@ module _ {E : Type 0} (device : E → State) (contents : E → Contents) (is_fau
           let takes = takes-first before after works works' handed (Ok done) took first second w parts in
           let fits = λ (sound : is_faulted before.engine ≡ false) (would : Exhausts (contents before.engine) took.group). committed_not_refused (commits.exhausts sound would) in
           let stand = commit-goes first w pair.wire.remote old.primary.committing took.lists took.group new.primary.committing old.primary.device new.primary.device old.primary.contents new.primary.contents old.primary.is_faulted new.primary.is_faulted
-          takes commits.in_hand commits.local fits commits.moved commits.durable commits.sound.0 parts.committing parts.engine in
+          takes commits.of_all.in_hand_is commits.of_all.local fits commits.of_all.moved commits.of_all.durable commits.of_all.sound.0 parts.committing parts.engine in
           let committer = committed_first (from_group w.primary.committer.waiting) w.primary.committer in
           primary-steps events.Commit first second w (with_committer committer w) old new refl
           (record { allowed = refl; primary_disk = refl; standby_disk = refl; primary = refl; standby = refl; role = refl; epoch = refl })
-          stands refl refl commits.sound.1 (inl refl) (sym (may-commit before works handed is first second w parts))
+          stands refl refl commits.of_all.sound.1 (inl refl) (sym (may-commit before works handed is first second w parts))
           (commit-moments first w pair.wire.remote old.primary.committing took.lists took.group new.primary.committing old.primary.device new.primary.device old.primary.contents old.primary.is_faulted takes fits commits.moments parts.committing parts.engine)
           (parts-after first second w committer parts takes stand (same_closed (from_group w.primary.committer.waiting) w)
-          (Remembers-committed first w pair.wire.remote old.primary.committing took.lists took.group new.primary.committing old.primary.contents new.primary.contents pair.primary.sequencer (passed-remote stands) takes commits.moved parts.committing parts.engine.contents_at parts.remembers))
+          (Remembers-committed first w pair.wire.remote old.primary.committing took.lists took.group new.primary.committing old.primary.contents new.primary.contents pair.primary.sequencer (passed-remote stands) takes commits.of_all.moved parts.committing parts.engine.contents_at parts.remembers))
 
   refused : (before after : Committer E) (works works' : Waiting Work) (handed : Waiting Group) (refusal : Refusal) → now-due before works handed ≡ due.Commit
       → TakesGroup device contents is_faulted pair.wire.remote before works (Err refusal) after works' → Does (pair_of before works handed) events.Commit (Err refusal) (pair_of after works' handed)
   refused before after works works' handed refusal is took =
-      record {
-        steps = tt;
-        cut = λ first second w stands.
-            let old = pair_of before works handed in
-            let new = pair_of after works' handed in
-            let parts = stands.parts in
-            let commits = took.commits in
-            let takes = takes-first before after works works' handed (Err refusal) took first second w parts in
-            cut-for first second events.Commit refusal old new w (nodes-refine stands) (tells pair.clients.transcript) refl
-            (enabled-is (own-runs stands events.Commit refl) ∙ may-commit before works handed is first second w parts)
-            (ends-commit refusal (λ last _. last first w.primary.calls w.primary.committer.position (next_primary w) old.primary.device new.primary.device) (Led first second old new w)
-            (λ last broken. (inl broken, rests-standby first second old w (nodes-refine stands)))
-            (commit-ends first w pair.wire.remote old.primary.committing took.lists took.group new.primary.committing old.primary.device new.primary.device old.primary.contents old.primary.is_faulted (Err refusal) refusal refl takes
-            commits.causes commits.fault (λ cause. let told = commits.exhausted cause in (told.0, ap (λ (e : E). device e) told.1))
-            commits.exhausts commits.moments (nodes-refine stands).lives.first_role parts.committing parts.engine));
-        calls = none-added _ _ refl;
-      }
+      cut-only (λ first second w stands.
+      let old = pair_of before works handed in
+      let new = pair_of after works' handed in
+      let parts = stands.parts in
+      let commits = took.commits in
+      let takes = takes-first before after works works' handed (Err refusal) took first second w parts in
+      cut-for first second events.Commit refusal old new w (nodes-refine stands) (tells pair.clients.transcript) refl
+      (enabled-is (own-runs stands events.Commit refl) ∙ may-commit before works handed is first second w parts)
+      (ends-commit refusal (λ last _. last first w.primary.calls w.primary.committer.position (next_primary w) old.primary.device new.primary.device) (Led first second old new w)
+      (λ last broken. (inl broken, rests-standby first second old w (nodes-refine stands)))
+      (commit-ends first w pair.wire.remote old.primary.committing took.lists took.group new.primary.committing old.primary.device new.primary.device old.primary.contents old.primary.is_faulted (Err refusal) refusal refl takes
+      commits.of_all.causes commits.of_all.fault (λ cause. let told = commits.exhausted cause in (told.0, ap (λ (e : E). device e) told.1))
+      commits.exhausts commits.moments (nodes-refine stands).lives.first_role parts.committing parts.engine))) refl
 
   -- room for the lists to stand aside was refused
   without-room : (before after : Committer E) (works works' : Waiting Work) (handed : Waiting Group) (result : Result Done Refusal) → now-due before works handed ≡ due.Commit
       → LacksRoom device contents is_faulted before works result after works' → Does (pair_of before works handed) events.Commit (went result) (pair_of after works' handed)
   without-room before after works works' handed result is lacks =
       subst (λ (r : Result Done Refusal). Does (pair_of before works handed) events.Commit (went r) (pair_of after works' handed)) (sym lacks.answer)
-      (record {
-        steps = tt;
-        cut = λ first second w stands.
-            cut-same first second events.Commit Memory (pair_of before works handed) (pair_of after works' handed) w refl refl (ap device lacks.engine) refl (tells pair.clients.transcript) refl (own-runs stands events.Commit refl)
-            (may-commit before works handed is first second w stands.parts) (nodes-refine stands);
-        calls = none-added _ _ refl;
-      })
+      (cut-only (λ first second w stands.
+      cut-same first second events.Commit Memory (pair_of before works handed) (pair_of after works' handed) w refl refl (ap device lacks.engine) refl (tells pair.clients.transcript) refl (own-runs stands events.Commit refl)
+      (may-commit before works handed is first second w stands.parts) (nodes-refine stands)) refl)
 
   -- what a turn does to a pair for which a commit is due
   pub commit-does : (before after : Committer E) (works works' : Waiting Work) (handed handed' : Waiting Group) (result : Result Done Refusal) → now-due before works handed ≡ due.Commit
@@ -246,7 +225,7 @@ module _ {E : Type 0} (device : E → State) (contents : E → Contents) (is_fau
   commit-does before after works works' handed handed' result is (offered, came) =
       subst (λ (h : Waiting Group). Does (pair_of before works handed) events.Commit (went result) (pair_of after works' h)) (Waiting-same handed handed' (sym offered.offered_is))
       (elim came [
-        | inl took ↦ by result took
+        | inl took ↦ by result (takes-one device contents is_faulted (link_room handed') pair.wire.remote before works result after works' (min-le_left 1 (PIPE_ITEMS - length handed'.items)) took)
         | inr lacking ↦ without-room before after works works' handed result is lacking
       ])
     where
@@ -268,7 +247,7 @@ module _ {E : Type 0} (device : E → State) (contents : E → Contents) (is_fau
       → (first second : Holder) (w : World) → PairRefines first second (pair_of before works handed) w → LeavesOnly (device before.engine) (device after.engine) (LeftBy first w cut.Commit)
   commit-left before after works works' handed handed' result (offered, came) first second w stands =
       elim came [
-        | inl took ↦ by result took
+        | inl took ↦ by result (takes-one device contents is_faulted (link_room handed') pair.wire.remote before works result after works' (min-le_left 1 (PIPE_ITEMS - length handed'.items)) took)
         | inr lacking ↦ still lacking.engine
       ]
     where
@@ -299,7 +278,7 @@ module _ {E : Type 0} (device : E → State) (contents : E → Contents) (is_fau
 
       by : (result : Result Done Refusal) → TakesGroup device contents is_faulted pair.wire.remote before works result after works' → LeavesOnly (device before.engine) (device after.engine) (LeftBy first w cut.Commit)
       by (Ok done) took = whole (Ok done) took (λ would. committed_not_refused (took.commits.exhausts stands.parts.engine.sound would))
-      by (Err refusal) took = elim took.commits.causes [
+      by (Err refusal) took = elim took.commits.of_all.causes [
         | inl fault ↦ whole (Err refusal) took (λ would. let told = took.commits.exhausts stands.parts.engine.sound would in cc)
         | inr exhausted ↦ still (took.commits.exhausted (ap Err exhausted)).1
       ]
@@ -314,14 +293,14 @@ module _ {E : Type 0} (device : E → State) (contents : E → Contents) (is_fau
       (subst (λ (g : Waiting Work). Does old events.RaiseLocal (Ok true) (pair_of shows g waiting')) (sym queue)
       (subst (λ (l : Waiting Group). Does old events.RaiseLocal (Ok true) (pair_of shows works l)) (sym link_is)
       (raise-does old (pair_of shows works waiting).primary.committing true
-      (λ w stands at. raise-goes w old.primary.committing (pair_of shows works waiting).primary.committing raises.group old.primary.contents.current.position
-      (CommittingRefines w.primary.calls (pair_of shows works waiting).primary.committing w.primary.committer) raises.in_hand refl refl refl refl stands at) refl refl))))
+      (λ w stands at. raise-goes w old.primary.committing (pair_of shows works waiting).primary.committing raises.groups old.primary.contents.current.position
+      (CommittingRefines w.primary.calls (pair_of shows works waiting).primary.committing w.primary.committer) raises.were refl refl refl refl stands at) refl refl))))
     where
       old : Pair
       old = pair_of before works waiting
 
       shows : Committer E
-      shows = raised device contents is_faulted raises.group before
+      shows = raised device contents is_faulted raises.groups before
 
   -- what a turn does to a pair for which a group is to be handed on
   pub hand-does-so : (before after : Committer E) (works works' : Waiting Work) (waiting waiting' : Waiting Group) (result : Result Done Refusal)
@@ -333,36 +312,39 @@ module _ {E : Type 0} (device : E → State) (contents : E → Contents) (is_fau
       old : Pair
       old = pair_of before works waiting
 
-      by : ((result ≡ Ok Handed) × (after ≡ ready_again before) × (waiting'.items ≡ waiting.items ++ hands.group ∷ []))
-          ⊎ ((result ≡ Ok Idle) × (after ≡ before) × (PIPE_ITEMS - length waiting.items ≡ 0) × (waiting'.items ≡ waiting.items))
+      by : HandsFirst device contents is_faulted (λ (pipe : Waiting Group). pipe.items) link_room hands.groups.items before waiting result after waiting'
+          ⊎ ((result ≡ Ok Idle) × (after ≡ before) × (link_room waiting ≡ 0) × (waiting'.items ≡ waiting.items))
+          ⊎ ((hands.groups.items ≡ []) × (result ≡ Ok Idle) × (after ≡ ready_again before) × (waiting'.items ≡ waiting.items))
           → Does old events.Hand (went result) (pair_of after works waiting')
-      by (inl handed) =
-          subst (λ (r : Result Done Refusal). Does old events.Hand (went r) (pair_of after works waiting')) (sym handed.0)
-          (subst (λ (c : Committer E). Does old events.Hand (Ok true) (pair_of c works waiting')) (sym handed.1)
-          (hand-does old (pair_of (ready_again before) works waiting).primary.committing waiting' true
-          (λ w sound stands are. hand-goes w old.primary.committing (pair_of (ready_again before) works waiting).primary.committing hands.group waiting.items waiting'.items hands.in_hand refl refl refl refl handed.2 stands are) refl refl))
-      by (inr full) =
+      by (inl first) =
+          let left : Committer E = record before { stage = after.stage } in
+          subst (λ (r : Result Done Refusal). Does old events.Hand (went r) (pair_of after works waiting')) (sym first.answer)
+          (subst (λ (c : Committer E). Does old events.Hand (Ok true) (pair_of c works waiting')) (sym first.now)
+          (hand-does old (pair_of left works waiting).primary.committing waiting' true
+          (λ w sound stands are. hand-goes w old.primary.committing (pair_of left works waiting).primary.committing hands.groups first.group first.rest waiting.items waiting'.items hands.were first.first
+          refl refl first.left refl first.offered_is stands are) refl refl))
+      by (inr (inl full)) =
           subst (λ (r : Result Done Refusal). Does old events.Hand (went r) (pair_of after works waiting')) (sym full.0)
-          (record {
-            steps = λ first second w stands.
-                absurd (omega (arith, full.2, hand-room w before.stage hands.group waiting.items hands.in_hand stands.sound stands.parts.committing.stage_is stands.parts.link.waiting));
-            cut = tt;
-            calls = none-added _ _ refl;
-          })
+          (steps-only (λ first second w stands.
+          absurd (omega (arith, none-known (length waiting.items) full.2, hand-room w before.stage hands.groups waiting.items hands.were stands.sound stands.parts.committing.stage_is stands.parts.link.waiting))) refl)
+      by (inr (inr none)) =
+          subst (λ (r : Result Done Refusal). Does old events.Hand (went r) (pair_of after works waiting')) (sym none.1)
+          (steps-only (λ first second w stands.
+          absurd (none-shown w.primary.calls before.stage hands.groups w.primary.committer.stage hands.were stands.parts.committing.stage_is none.0)) refl)
 
   -- another step is due
   pub raise-stays : (before : Committer E) (works : Waiting Work) (waiting : Waiting Group) → (now-due before works waiting ≡ due.Raise → ⊥)
       → Does (pair_of before works waiting) events.RaiseLocal (Ok false) (pair_of before works waiting)
   raise-stays before works waiting never =
       stays-does (pair_of before works waiting) events.RaiseLocal refl (λ first second w stands. raise-none w.primary.calls before.stage w.primary.committer.stage
-      (λ group durable. never (raise-now contents before works (link_has_room waiting.items) pair.wire.remote group durable))
+      (λ groups durable. never (raise-now contents before works (link_has_room waiting.items) pair.wire.remote groups durable))
       stands.parts.committing.stage_is)
 
   pub hand-stays : (before : Committer E) (works : Waiting Work) (waiting : Waiting Group) → (now-due before works waiting ≡ due.Hand → ⊥)
       → Does (pair_of before works waiting) events.Hand (Ok false) (pair_of before works waiting)
   hand-stays before works waiting never =
       stays-does (pair_of before works waiting) events.Hand refl (λ first second w stands. hand-none w.primary.calls before.stage w.primary.committer.stage
-      (λ group shown. never (hand-now contents before works (link_has_room waiting.items) pair.wire.remote group shown))
+      (λ groups shown. never (hand-now contents before works (link_has_room waiting.items) pair.wire.remote groups shown))
       stands.parts.committing.stage_is)
 
 -- ---- what was answered of it

@@ -1,35 +1,12 @@
 -- The image of a standby that is promoted: what the calls that do so leave of it.
 use Rattle.std.proofs.Common.{◌≡◌, ◌⊎◌, inl, inr, ℕ, ◌+◌, ◌<◌, ◌≤◌, Bool, true, false, List, [], ◌∷◌, All, Vec, Global, refl, sym, ap, subst, ◌∙◌, arith, true≢false}
-use Rattle.std.proofs.lemmas.Bool.{cases_lt}
-use Rattle.std.proofs.lemmas.List.Elements.{All-head, All-tail}
-use Rattle.kv_types.specs.declared.refusal.Refusal.{Refusal}
-use Rattle.kv_types.specs.declared.refusal.Refusal.TheVariants.{Exhausted, Fault, Memory}
-use Rattle.pmem.specs.Device.{State}
-use Rattle.pmem.specs.Crash.{IsImage, IsSettled, image_of}
-use Rattle.pmem.specs.Runs.{LeavesOnly}
-use Rattle.pmem.proofs.Leaving.{LeavesOnly-then, LeavesOnly-weaken, none_leaves}
-use Rattle.model.specs.declared.call.Call.{Call}
-use Rattle.model.specs.declared.image.TheConstants.{COUNTER_LIMIT}
-use Rattle.model.specs.declared.record.Record.{Record}
+use Rattle.world.specs.Words.{AreLawful, Call, Contents, COUNTER_LIMIT, Exhausted, ExhaustsPromotion, ExhaustsReopening, Fault, HasRecord, Holder, Image, image_of, IsBeforeOrPromoted, IsDurable, IsFrameWithin, IsImage, IsSettled, LeavesOnly, Memory, promoted_contents, Record, Refusal, Role, Same, Sent, State}
+use Rattle.world.proofs.Words.{All-head, All-tail, cases_lt, HasRecord-lines, LeavesOnly-then, LeavesOnly-weaken, none_leaves, Same-is}
 use Rattle.model.specs.declared.record.Role.TheVariants as role
-use Rattle.model.specs.Call.{cut_at}
-use Rattle.model.specs.Group.{Contents}
-use Rattle.model.specs.Image.{HasRecord, Holds, Image}
-use Rattle.model.specs.Standing.{Holder}
-use Rattle.model.proofs.RecordLemmas.{HasRecord-lines}
-use Rattle.group_commit.proofs.GroupsLemmas.{Same-is}
-use Rattle.wbl_engine.specs.Contents.{IsDurable, Same}
-use Rattle.wbl_engine.specs.Lawful.{AreLawful}
-use Rattle.wbl_engine.specs.Promoting.{ExhaustsPromotion, promoted as promoted_contents}
-use Rattle.wbl_engine.specs.Reopening.{ExhaustsReopening}
 use Rattle.wbl_engine.proofs.PromotingLemmas.{consistent_promoted, lawful_promoted}
-use Rattle.failover.specs.Promoting.{IsBeforeOrPromoted}
-use Rattle.machine.specs.Event.{Frame as Sent, Role}
-use Rattle.machine.specs.Sound.{IsFrameWithin}
 use Rattle.world.specs.Cause.{Promoting}
 use Rattle.world.specs.Committing.{AreContentsAt, EngineStands, IsDown, OpensAsEither, OpensAt, promoted_holder}
 use Rattle.world.specs.Link.{AreFramesSent}
-use Rattle.world.proofs.CutLemmas.{keyspace_after-cut_at-cut}
 use Rattle.world.proofs.DownLemmas.{restart-moments, restart-refused, settled-image}
 use Rattle.world.proofs.EngineLemmas.{Opens-engine}
 use Rattle.world.proofs.KeptLemmas.{KeepsAsEither, engine-keeps, restart-promoted}
@@ -74,20 +51,9 @@ pub record WasPromoted (old between new : State) (contents after : Contents) : T
   pub failures : new.failures ≡ between.failures
   pub moments : LeavesOnly between new (IsImage between.words)
 
--- the same, where the fence was that of this epoch
-pub record PromotesUnder (epoch : ℕ) (old between new : State) (contents after : Contents) (is_faulted : Bool) : Type 0 where
-  pub moved : Same (promoted_contents contents) after
-  pub durable : IsDurable between after
-  pub lawful : AreLawful contents → AreLawful after
-  pub sized : after.lines ≡ between.lines
-  pub promoting : epoch ≡ contents.current.epoch → is_faulted ≡ false → LeavesOnly old between (IsBeforeOrPromoted contents)
-  pub promoting_failures : between.failures ≡ old.failures
-  pub fits : epoch ≡ contents.current.epoch → is_faulted ≡ false → ¬ ExhaustsPromotion contents.current
-  pub settled : IsSettled new.words
-  pub image : IsImage between.words (image_of new.words)
-  pub lines_are : new.lines ≡ between.lines
-  pub failures : new.failures ≡ between.failures
-  pub moments : LeavesOnly between new (IsImage between.words)
+-- so where the fence was that of this epoch, and no counter was at its limit
+abbrev pub PromotesUnder : ℕ → State → State → State → Contents → Contents → Bool → Type 0
+PromotesUnder epoch old between new contents after is_faulted = epoch ≡ contents.current.epoch → is_faulted ≡ false → WasPromoted old between new contents after × (¬ ExhaustsPromotion contents.current)
 
 -- contents of a standby at a position, promoted
 pub contents-promoted : (holder : Holder) (calls : List Call) (p : ℕ) (contents after : Contents) → AreContentsAt holder calls p contents → Same (promoted_contents contents) after → AreContentsAt (promoted_holder holder) calls p after
@@ -258,16 +224,3 @@ not-promoted-ends holder calls p next old new contents is_faulted refusal stands
         limit = standby-limit contents.current (stands.contents_at.role_is ∙ follows) why.0;
       }))
 ]
-
--- what opens over a list that was cut above it opens over the whole
-pub OpensAt-uncut : (holder : Holder) (calls : List Call) (n p : ℕ) (image : Image) → p ≤ n → OpensAt holder (cut_at calls n) p image → OpensAt holder calls p image
-OpensAt-uncut holder calls n p image le opens = record {
-  stands = record {
-    current = opens.stands.current;
-    position = opens.stands.position;
-    role = opens.stands.role;
-    epoch = opens.stands.epoch;
-    holds = subst (λ s. Holds holder.lines opens.stands.current s image) (keyspace_after-cut_at-cut calls n p le) opens.stands.holds;
-  };
-  undamaged = opens.undamaged;
-}

@@ -1,25 +1,14 @@
 -- What waits for the committer stands for what waits for the machine's: the same may happen next, and a turn may take it.
 use Rattle.std.proofs.Common.{◌≡◌, ℕ, Bool, true, false, not, ◌&&◌, cond, nat_lt, nat_le, List, [], ◌∷◌, ◌++◌, refl, sym, ap, ap₂, ◌∙◌}
-use Rattle.std.proofs.lemmas.List.{map-append}
-use Rattle.model.specs.declared.call.Call.{Call}
-use Rattle.model.specs.declared.group.Group.{Group}
-use Rattle.model.specs.declared.work.FreeList.{FreeList}
-use Rattle.model.specs.declared.work.Work.{Work}
+use Rattle.world.specs.Words.{AreGroupsOf, Call, ClearGap, Commit, Due, due_of, Durable, Free, FreeList, from_group, Group, has_room, is_nonempty, MachineStage, may_happen, PIPE_ITEMS, positions_of_lists, reached_lists, Ready, Shown, Span, Stage, Work, World}
+use Rattle.world.proofs.Words.{length-groups, map-append}
 use Rattle.model.specs.declared.work.Work.TheVariants as work
-use Rattle.model.specs.Call.{is_nonempty}
-use Rattle.group_commit.specs.Due.{due_beside, due_of, has_group}
+use Rattle.group_commit.specs.Due.{due_beside, has_group}
 use Rattle.group_commit.specs.Group.{lists_of}
-use Rattle.group_commit.specs.declared.due.Due.{Due}
 use Rattle.group_commit.specs.declared.due.Due.TheVariants as due
-use Rattle.group_commit.specs.declared.stage.Stage.{Stage}
-use Rattle.group_commit.specs.declared.stage.Stage.TheVariants.{Ready, Durable, Shown}
-use Rattle.machine.specs.declared.event.Event.TheVariants.{ClearGap, Commit, Free}
-use Rattle.machine.specs.declared.event.TheConstants.{PIPE_ITEMS}
-use Rattle.machine.specs.Event.{Span, Stage as MachineStage, World, first_is_within, from_group, has_room, is_ready, may_happen, reached_lists}
+use Rattle.machine.specs.Event.{first_is_within, is_ready}
 use Rattle.machine.specs.World as machine_stage
 use Rattle.world.specs.Committing.{Committing, CommittingRefines, StageRefines, link_has_room, reached_now}
-use Rattle.node_steps.specs.GroupSpan.{AreGroupsOf, positions_of_lists}
-use Rattle.node_steps.proofs.GroupSpanLemmas.{length-groups}
 use Rattle.node_steps.proofs.QueueLemmas.{has_group-work, lists-work, nonempty-work}
 
 -- ---- what is in it

@@ -1,26 +1,17 @@
 -- What the image of a node may hold in which a fence failed: how it opens, and while the list grows or is cut.
 use Rattle.std.proofs.Common.{◌≡◌, ◌⊎◌, inl, inr, ℕ, zero, suc, ◌<◌, ◌≤◌, List, [], ◌∷◌, ◌++◌, length, get_or, append-nil, refl, sym, ap, subst, ◌∙◌, arith, le_refl}
 use Rattle.std.specs.Prelude.{All, Contains}
-use Rattle.std.proofs.lemmas.List.Elements.{All-cons, All-contains}
-use Rattle.pmem.specs.Crash.{IsImage}
-use Rattle.pmem.specs.Device.{State}
-use Rattle.pmem.proofs.Leaving.{LeavesOnly-weaken, none_leaves}
-use Rattle.model.specs.declared.call.Call.{Call}
-use Rattle.model.specs.Call.{cut_at, position_of}
-use Rattle.model.specs.Group.{Contents}
-use Rattle.model.specs.Image.{Image}
-use Rattle.model.specs.Standing.{Holder}
-use Rattle.machine.specs.declared.event.Cut.{Cut}
+use Rattle.world.specs.Words.{AsFollower, AsPrimary, At, Call, Contents, Cut, cut_at, Holder, Image, IsImage, IsStandbyLeft, left_by, may_remain, position_of, Remains, Role, State, torn, World}
+use Rattle.world.proofs.Words.{All-cons, AreContentsAt-grows, LeavesOnly-weaken}
+use Rattle.std.proofs.lemmas.List.Elements.{All-contains}
 use Rattle.machine.specs.declared.event.Cut.TheVariants as cut
 use Rattle.machine.specs.declared.event.Node.TheVariants as node
-use Rattle.machine.specs.Event.{AsFollower, AsPrimary, At, Primary, Remains, Role, World, left_by, may_remain, torn}
-use Rattle.machine.specs.Sound.{IsStandbyLeft}
+use Rattle.machine.specs.Event.{Primary}
 use Rattle.world.specs.Cause.{OrLies, Resting}
 use Rattle.world.specs.Recalling.{RecallsFor, past_of}
 use Rattle.world.specs.Committing.{AreContentsAt, Moves, Opens, OpensAt, OpensAtEither, promoted_holder}
 use Rattle.world.specs.Remaining.{KeepsAs, KeepsAt, KeepsOne, LeavesOne, LeftBy, MovesNear, OpensAs, OpensAsOne, OpensNear, Remain}
 use Rattle.world.proofs.CutLemmas.{AreContentsAt-cut}
-use Rattle.node_steps.proofs.EngineLemmas.{AreContentsAt-grows}
 use Rattle.world.proofs.EngineLemmas.{keeps-opens, rests-same}
 use Rattle.world.proofs.RecallLemmas.{recalled-on}
 
@@ -97,15 +88,6 @@ near-from holder calls p q others old new moves = record { leaves = LeavesOnly-w
     either : (image : Image) → OpensAtEither holder calls p q image → OpensNear holder calls p (At q ∷ others) image
     either image (inl here) = inl here
     either image (inr there) = inr (inl there)
-
--- nothing was done to it
-pub near-rest : (holder : Holder) (calls : List Call) (p q : ℕ) (others : List Remains) (old new : State) → new ≡ old → Remain holder calls p others old → MovesNear holder calls p q others old new
-near-rest holder calls p q others old new same remain =
-    subst (MovesNear holder calls p q others old) (sym same) (record { leaves = none_leaves old (OpensNear holder calls p (At q ∷ others)) (λ image is. more image (remain image is)); failures = refl })
-  where
-    more : (image : Image) → OpensNear holder calls p others image → OpensNear holder calls p (At q ∷ others) image
-    more image (inl here) = inl here
-    more image (inr one) = inr (inr one)
 
 only-there : (holder : Holder) (calls : List Call) (p : ℕ) (image : Image) → OpensNear holder calls p [] image → OpensAt holder calls p image
 only-there holder calls p image (inl here) = here

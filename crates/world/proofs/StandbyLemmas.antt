@@ -1,34 +1,13 @@
 -- What the standby does with a frame of the list is what the machine's does with its span.
 use Rattle.std.proofs.Common.{◌≡◌, ℕ, Bool, ◌+◌, ◌-◌, ◌<◌, ◌≤◌, ◌⊎◌, ⊎_elim, inl, inr, false, List, [], ◌∷◌, ◌++◌, Result, Ok, Err, refl, sym, ap, ap₂, subst, ◌∙◌, arith, cond, eq-eqb, rules}
-use Rattle.std.proofs.lemmas.Bool.{cases_lt}
-use Rattle.kv_types.specs.declared.refusal.Refusal.{Refusal}
-use Rattle.kv_types.specs.declared.refusal.Refusal.TheVariants.{WrongEpoch, PositionGap, Full, Memory, Fault, Exhausted}
-use Rattle.kv_types.specs.Keyspace.{play_all}
-use Rattle.kv_types.specs.declared.place.EntryNo.{EntryNo}
-use Rattle.extent_heap.specs.Room.{Room}
-use Rattle.pmem.specs.Device.{State}
-use Rattle.pmem.specs.Crash.{IsImage, Keeps}
-use Rattle.pmem.specs.Runs.{LeavesOnly}
-use Rattle.pmem.proofs.Leaving.{LeavesOnly-weaken, none_leaves}
-use Rattle.model.specs.declared.call.Call.{Call}
-use Rattle.model.specs.declared.image.TheConstants.{COUNTER_LIMIT, STAMP_WINDOW}
-use Rattle.model.specs.Call.{keyspace_after, cut_at, position_of}
-use Rattle.model.specs.Image.{Image, IsMapOf}
-use Rattle.model.proofs.RecordLemmas.{HasRecord-lines}
-use Rattle.model.specs.Group.{Contents, entries_of}
-use Rattle.model.specs.Standing.{Holder}
-use Rattle.model.proofs.CallsLemmas.{IsKeyspace-keyspace_after, keyspace_after-cut_at-append}
-use Rattle.mv_keyspace.specs.Table.{Table, records}
-use Rattle.mv_keyspace.proofs.PartTables.{map-from_table}
-use Rattle.wbl_engine.specs.Contents.{IsDurable}
-use Rattle.wbl_engine.specs.Lawful.{AreLawful}
-use Rattle.machine.specs.declared.event.Event.TheVariants.{Apply}
-use Rattle.machine.specs.Event.{At, Changes, Follower, Remains, Role, Standby as Machine, Span, Told, Frame as Sent, Acknowledgement, Takes, TakesChanges, TakesOwn, acknowledgement_of, left_by_first, left_by_told, moved_to}
-use Rattle.frames.specs.declared.ack.Ack.{Ack}
-use Rattle.frames.specs.declared.frame.Frame.{Frame}
+use Rattle.world.specs.Words.{Ack, Acknowledgement, acknowledgement_of, Apply, AreLawful, At, Call, Changes, Contents, COUNTER_LIMIT, cut_at, entries_of, EntryNo, Exhausted, Fault, Follower, Follows, Frame, Holder, Image, IsDurable, IsImage, IsMapOf, IsTakenNext, keyspace_after, LeavesOnly, left_by_first, left_by_told, Memory, play_all, position_of, records, Refusal, Remains, Role, Room, Sent, Span, STAMP_WINDOW, State, Table, Takes, TakesChanges, TakesFrame, TakesOwn, Told}
+use Rattle.world.proofs.Words.{cases_lt, EngineStands-grows, HasRecord-lines, IsKeyspace-keyspace_after, keyspace_after-cut_at-append, LeavesOnly-weaken, map-from_table, none_leaves}
+use Rattle.kv_types.specs.declared.refusal.Refusal.TheVariants.{WrongEpoch, PositionGap, Full}
+use Rattle.pmem.specs.Crash.{Keeps}
+use Rattle.machine.specs.Event.{Standby as Machine, moved_to}
 use Rattle.standby.specs.declared.standby.Standby.{Standby}
-use Rattle.standby.specs.Following.{Follows, HoldsRearranged, HoldsWhole, IsHeld, IsNext, IsRearranged, IsTakenNext, HasTaken, IsBeforeOrWhole, WouldExhaust}
-use Rattle.standby.specs.Taking.{IsFull, TakesFrame}
+use Rattle.standby.specs.Following.{HoldsRearranged, HoldsWhole, IsHeld, IsNext, IsRearranged, HasTaken, IsBeforeOrWhole, WouldExhaust}
+use Rattle.standby.specs.Taking.{IsFull}
 use Rattle.world.specs.Cause.{IsAtLimit, EndsBy}
 use Rattle.world.specs.Committing.{AreContentsAt, EngineStands, Moves, OpensAt, OpensAtEither, Rests}
 use Rattle.world.specs.Following.{HasFollower, moved_by, next_from}
@@ -38,7 +17,6 @@ use Rattle.world.specs.Standby.{Node, StandbyStands, node_at, told_by}
 use Rattle.world.proofs.KeptLemmas.{EngineStands-kept, engine-keeps, keeps-here, keeps-next, near-kept}
 use Rattle.world.proofs.RemainLemmas.{kept-opens}
 use Rattle.world.proofs.RoleLemmas.{newcomer_follows}
-use Rattle.node_steps.proofs.EngineLemmas.{EngineStands-grows}
 use Rattle.world.proofs.EngineLemmas.{Opens-engine, moves-same, rests-same}
 
 -- nothing happened to the standby

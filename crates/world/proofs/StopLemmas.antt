@@ -1,97 +1,31 @@
 -- What a step of the machine says of a node that stops in it, or that had stopped before.
-use Rattle.std.proofs.Common.{◌≡◌, ◌⊎◌, Bool, true, false, [], Option, slice_get, refl, sym, ap, subst, ◌∙◌, inl, inr, true≢false}
-use Rattle.std.proofs.lemmas.Bool.{and_parts}
-use Rattle.machine.specs.declared.event.Cut.{Cut}
+use Rattle.std.proofs.Common.{◌≡◌, ◌⊎◌, true, false, [], refl, sym, ap, ◌∙◌, inl, inr, true≢false}
+use Rattle.world.specs.Words.{Applies, Apply, AsFollower, AsPrimary, At, ClearGap, Commit, Crash, crashed, Cut, Event, FailFence, Fails, Free, Happens, is_crashed, is_running, is_stopped, left_by, Life, life_of, may_happen, Node, nodes_run, position_at, Promote, Remains, Reopen, Sound, Step, torn, touches, without_first, World}
+use Rattle.world.proofs.Words.{and_parts, IsAt, remains-primary}
 use Rattle.machine.specs.declared.event.Cut.TheVariants as cut
-use Rattle.machine.specs.declared.event.Event.{Event}
-use Rattle.machine.specs.declared.event.Event.TheVariants.{AckDelivered, Apply, ClearGap, CloseGroup, Commit, Crash, FailFence, Free, PinCopy, Promote, Reopen, Send, Turn}
-use Rattle.machine.specs.declared.event.Node.{Node}
 use Rattle.machine.specs.declared.event.Node.TheVariants as node
-use Rattle.machine.specs.Event.{Acknowledgement, Applies, AsFollower, AsPrimary, At, Awaited, Copying, Crashed, Fails, Follows, Happens, Life, Remains, Retired, Running, Sending, Step, Stopped, World, crashed, is_crashed, is_running, is_stopped, left_by, life_of, may_happen, nodes_run, position_at, sent_with, told, torn, with_link, without_first}
-use Rattle.machine.specs.Row.{touches}
-use Rattle.machine.specs.Sound.{Sound}
-use Rattle.machine.proofs.StandingLemmas.{rests-Fails}
-use Rattle.machine.proofs.SureLemmas.{IsAt, remains-primary}
+use Rattle.machine.specs.Event.{Crashed, Running, Stopped}
 use Rattle.world.specs.Stopping.{call_of}
 use Rattle.world.proofs.LivesLemmas.{taken-life}
 
 -- ---- lives
 
-running-whole : (life : Life) → is_running life ≡ true → torn life ≡ []
+pub running-whole : (life : Life) → is_running life ≡ true → torn life ≡ []
 running-whole Running runs = refl
-running-whole (Stopped remains) runs = absurd (true≢false (sym runs))
 running-whole Crashed runs = refl
-running-whole (Retired remains) runs = absurd (true≢false (sym runs))
+running-whole life runs = absurd (true≢false (sym runs))
 
-running-goes : (life : Life) → is_running life ≡ true → is_stopped life ≡ false
-running-goes Running runs = refl
+pub running-goes : (life : Life) → is_running life ≡ true → is_stopped life ≡ false
 running-goes (Stopped remains) runs = absurd (true≢false (sym runs))
-running-goes Crashed runs = refl
-running-goes (Retired remains) runs = absurd (true≢false (sym runs))
+running-goes life runs = refl
 
 crashed-goes : (life : Life) → is_crashed life ≡ true → is_stopped life ≡ false
-crashed-goes Running down = refl
 crashed-goes (Stopped remains) down = absurd (true≢false (sym down))
-crashed-goes Crashed down = refl
-crashed-goes (Retired remains) down = refl
+crashed-goes life down = refl
 
 -- the standby took a frame
-applied-life : {w new : World} (applies : Applies w new) → new.standby.life ≡ w.standby.life
+pub applied-life : {w new : World} (applies : Applies w new) → new.standby.life ≡ w.standby.life
 applied-life {w} {new} applies = ap (λ (x : World). x.standby.life) applies.now ∙ (taken-life applies.frame (without_first w.standby) applies.standby applies.told applies.takes).0
-
--- ---- a standby of which a call has left something
-
--- it stands where it did
-abbrev pub Lies : World → World → Type 0
-Lies w new = (new.standby.position ≡ w.standby.position) ⊎ (torn new.standby.life ≡ [])
-
-lies-as : (w then new : World) → new ≡ then → Lies w then → Lies w new
-lies-as w then new now lies = subst (Lies w) (sym now) lies
-
-lies-or : {P : Type 0} (w new : World) (n : Node) (call : Cut) → (P → Lies w new) → P ⊎ Fails w n call new → Lies w new
-lies-or w new n call by happens = elim happens [ inl did ↦ by did | inr fails ↦ inl (rests-Fails w new n call fails).position ]
-
-lies-told : (w : World) (ack : Option Acknowledgement) → Lies w (with_link (told w.primary.epoch w.primary.committer.position ack w.primary.link) w)
-lies-told w ack = inl refl
-
-lies-crashed : (w : World) (n : Node) (remain : Remains) → Lies w (crashed n remain w)
-lies-crashed w node.Primary (At p) = inl refl
-lies-crashed w node.Primary AsPrimary = inl refl
-lies-crashed w node.Primary (AsFollower p) = inl refl
-lies-crashed w node.Standby (At p) = inr refl
-lies-crashed w node.Standby AsPrimary = inl refl
-lies-crashed w node.Standby (AsFollower p) = inr refl
-
-lies-sent : (w : World) (copying : Copying) → Lies w (sent_with copying w)
-lies-sent w Follows = inl refl
-lies-sent w Awaited = inl refl
-lies-sent w (Sending pinned) = inl refl
-
-lies-happens : (w : World) (event : Event) (new : World) → nodes_run w event ≡ true → Happens w event new → Lies w new
-lies-happens w (Turn c) new runs h = lies-as w _ new h.now (inl refl)
-lies-happens w CloseGroup new runs h =
-    elim h [
-      | inl group ↦ lies-as w _ new group.1.now (inl refl)
-      | inr list ↦ lies-as w _ new list.1 (inl refl)
-    ]
-lies-happens w Send new runs h = lies-as w _ new h (lies-sent w w.primary.link.copying)
-lies-happens w PinCopy new runs h = lies-as w _ new h.now (inl refl)
-lies-happens w Commit new runs h = lies-or w new node.Primary cut.Commit (λ did. lies-as w _ new did (inl refl)) h
-lies-happens w Free new runs h = lies-or w new node.Primary cut.Free (λ did. lies-as w _ new did (inl refl)) h
-lies-happens w ClearGap new runs h = lies-or w new node.Primary cut.ClearGap (λ did. lies-as w _ new did (inl refl)) h
-lies-happens w Apply new runs h = lies-or w new node.Standby cut.Apply (λ applies. inr (ap torn (applied-life applies) ∙ running-whole w.standby.life runs)) h
-lies-happens w (AckDelivered a) new runs h = lies-as w _ new h (lies-told w (slice_get w.wire.acknowledgements a))
-lies-happens w (FailFence node.Primary n) new runs h = lies-as w _ new h (inl refl)
-lies-happens w (FailFence node.Standby n) new runs h = lies-as w _ new h (inl refl)
-lies-happens w (Crash n call k picks) new runs h = lies-as w _ new h.now (lies-crashed w n h.remain)
-lies-happens w (Reopen node.Primary) new runs h = lies-or w new node.Primary cut.Reopen (λ opens. lies-as w _ new opens.now (inl refl)) h
-lies-happens w (Reopen node.Standby) new runs h = lies-or w new node.Standby cut.Reopen (λ did. lies-as w _ new did (inl refl)) h
-lies-happens w Promote new runs h = lies-or w new node.Standby cut.Promote (λ opens. lies-as w _ new opens.now (inl refl)) h
-lies-happens w event new runs h = lies-as w _ new h (inl refl)
-
-pub lies-step : (w : World) (event : Event) (did : Bool) (new : World) → Step w event did new → Lies w new
-lies-step w event true new step = lies-happens w event new (and_parts (nodes_run w event) (may_happen w event) (sym step.done)).0 (step.happens refl)
-lies-step w event false new step = inl (ap (λ (x : World). x.standby.position) (step.stands refl))
 
 -- ---- a node that stops
 

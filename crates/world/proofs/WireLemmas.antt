@@ -1,9 +1,9 @@
 -- Bytes that are read piece by piece.
 use Rattle.std.proofs.Common.{◌≡◌, ◌≢◌, ℕ, ◌<◌, List, [], ◌∷◌, ◌++◌, length, take, drop, Option, Some, None, option_to_list, IsSome, Bool, true, ◌==◌, true≢false, refl, sym, ap, subst, ◌∙◌, append_assoc, append-nil, arith}
-use Rattle.std.proofs.lemmas.Bool.{eqb-true}
-use Rattle.std.proofs.lemmas.List.{map-append, take-append-drop}
-use Rattle.stream_codec.specs.declared.message.Message.{Message}
-use Rattle.stream_codec.specs.Message.{Sent, IsSent, sent_of, sent_text}
+use Rattle.world.specs.Words.{IsSent, Message, sent_of, sent_text}
+use Rattle.world.proofs.Words.{eqb-true, map-append}
+use Rattle.std.proofs.lemmas.List.{take-append-drop}
+use Rattle.stream_codec.specs.Message.{Sent}
 use Rattle.stream_codec.specs.Scanning.{sent_of_all}
 use Rattle.stream_codec.specs.Stream.{Stream, stream_at, fed, Reaches, begun, took}
 use Rattle.stream_codec.proofs.Streams.{stream_grows, stream_at-Reaches, written_is_read}

@@ -1,21 +1,7 @@
 -- Why a run may end before its last event, and what each cause leaves of the devices.
 use Rattle.std.specs.Prelude.{◌≡◌, ◌⊎◌, ℕ, ◌+◌, ◌-◌, ◌<◌, ◌≤◌, Bool, true, false, List, [], Option, Some, None}
-use Rattle.pmem.specs.Device.{State}
-use Rattle.pmem.specs.Crash.{IsImage}
-use Rattle.kv_types.specs.declared.refusal.Refusal.{Refusal}
-use Rattle.kv_types.specs.declared.refusal.Refusal.TheVariants.{Memory, Fault, Exhausted, WrongSize}
-use Rattle.model.specs.declared.call.Call.{Call}
-use Rattle.model.specs.declared.image.TheConstants.{COUNTER_LIMIT, STAMP_WINDOW, MIN_LINES, MAX_LINES}
-use Rattle.model.specs.declared.record.Record.{Record}
-use Rattle.model.specs.Image.{Image, HasRecord}
-use Rattle.model.specs.Standing.{Holder}
-use Rattle.machine.specs.declared.event.Event.{Event}
-use Rattle.machine.specs.declared.event.Node.{Node}
+use Rattle.world.specs.Words.{Call, COUNTER_LIMIT, EachPosition, Event, Exhausted, ExhaustsReopening, Fault, HasRecord, Holder, Image, IsImage, LeavesOnly, Limit, MAX_LINES, Memory, MIN_LINES, Node, OneStamp, Record, Refusal, Remains, Reopening, row, STAMP_WINDOW, State, WrongSize}
 use Rattle.machine.specs.declared.event.Node.TheVariants as node
-use Rattle.machine.specs.Event.{Remains}
-use Rattle.machine.specs.Row.{EachPosition, Limit, OneStamp, Reopening, row}
-use Rattle.wbl_engine.specs.Reopening.{ExhaustsReopening}
-use Rattle.pmem.specs.Runs.{LeavesOnly}
 use Rattle.world.specs.Committing.{OpensAsEither, Rests, NearOnly}
 use Rattle.world.specs.Remaining.{Remain}
 

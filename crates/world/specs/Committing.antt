@@ -1,30 +1,18 @@
 -- How the committer and its engine refine the machine's.
-use Rattle.std.specs.Prelude.{◌≡◌, ◌⊎◌, ℕ, ◌+◌, ◌≤◌, Bool, true, false, nat_lt, List, length}
-use Rattle.pmem.specs.Device.{State}
-use Rattle.pmem.specs.Crash.{IsImage, IsSettled, image_of}
-use Rattle.pmem.specs.Runs.{LeavesOnly}
-use Rattle.model.specs.declared.call.Call.{Call}
-use Rattle.model.specs.Image.{Image}
-use Rattle.model.specs.declared.group.Group.{Group}
-use Rattle.model.specs.declared.work.FreeList.{FreeList}
-use Rattle.model.specs.declared.work.Work.{Work}
-use Rattle.model.specs.Group.{Contents}
-use Rattle.model.specs.Standing.{Holder, StandsAt}
+use Rattle.std.specs.Prelude.{◌≡◌, ◌⊎◌, ℕ, ◌+◌, ◌≤◌, Bool, true, false, nat_lt, List, [], ◌∷◌, length}
+use Rattle.world.specs.Words.{AreGroupsOf, AreLawful, AreWorkOf, Call, Contents, Due, Durable, Event, FreeList, Group, Holder, Image, image_of, IsFormatting, IsImage, IsSettled, IsUndamaged, Keeps, LeavesOnly, MachineCommitter, MachineStage, positions_of_lists, Ready, Shown, Stage, State, Waiting, Work}
+use Rattle.model.specs.Standing.{StandsAt}
 use Rattle.model.specs.declared.record.Role.{Role}
 use Rattle.model.specs.declared.record.TheConstants.{FIRST_EPOCH}
-use Rattle.wbl_engine.specs.Contents.{Keeps}
-use Rattle.wbl_engine.specs.Formatting.{IsFormatting}
-use Rattle.wbl_engine.specs.Lawful.{AreLawful, IsUndamaged}
 use Rattle.pipes.specs.declared.limits.TheConstants.{PIPE_ITEMS}
 use Rattle.group_commit.specs.Due.{reached_by}
-use Rattle.group_commit.specs.declared.due.Due.{Due}
 use Rattle.group_commit.specs.declared.due.Due.TheVariants as due
-use Rattle.machine.specs.declared.event.Event.{Event}
 use Rattle.machine.specs.declared.event.Event.TheVariants as events
+use Rattle.machine.specs.World as machine_stage
 -- where the nodes stand after the group that the primary commits next, and after the frame that the standby takes next
 pub use Rattle.machine.specs.Event.{next_primary}
 pub use Rattle.world.specs.Following.{next_from, next_standby}
-pub use Rattle.node_steps.specs.Committing.{AreContentsAt, Committing, CommittingRefines, EngineStands, StageRefines}
+pub use Rattle.node_steps.specs.Committing.{AreContentsAt, EngineStands}
 pub use Rattle.primary.specs.Leading.{AreOfEpoch, Leads, entries_told, extents_told}
 
 -- ---- the engine
@@ -83,6 +71,29 @@ abbrev pub FormattingOnly : Role → State → State → Type 0
 FormattingOnly role old new = LeavesOnly old new (IsFormatting old.words old.lines role FIRST_EPOCH)
 
 -- ---- the committer
+
+-- what waits for the committer, and what it has beside its engine
+pub record Committing : Type 0 where
+  pub waiting : Waiting Work
+  -- free lists that were taken and wait for the standby, oldest first
+  pub aside : List FreeList
+  pub stage : Stage
+  -- the local mark
+  pub local : ℕ
+
+-- the committer has one group in hand, that of the machine's span in hand
+abbrev pub StageRefines : List Call → Stage → MachineStage → Type 0
+StageRefines calls Ready machine_stage.Ready = Unit {0}
+StageRefines calls (Durable groups) (machine_stage.Durable span) = AreGroupsOf calls groups.items (span ∷ [])
+StageRefines calls (Shown groups) (machine_stage.Shown span) = AreGroupsOf calls groups.items (span ∷ [])
+StageRefines calls _ _ = ⊥
+
+-- the committer's queue, the group in hand and the mark
+pub record CommittingRefines (calls : List Call) (code : Committing) (machine : MachineCommitter) : Type 0 where
+  pub work : AreWorkOf calls code.waiting.items machine.waiting
+  pub aside : positions_of_lists code.aside ≡ machine.aside
+  pub stage_is : StageRefines calls code.stage machine.stage
+  pub local_is : code.local ≡ machine.local
 
 -- the link has room for a group
 abbrev pub link_has_room : List Group → Bool

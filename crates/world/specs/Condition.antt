@@ -1,6 +1,6 @@
 -- The conditions of a node, as the machine has them.
 use Rattle.std.specs.Prelude.{Bool, true, false, ◌||◌, List}
-use Rattle.machine.specs.Event.{Life, Remains}
+use Rattle.world.specs.Words.{Life, Remains}
 use Rattle.machine.specs.World as lives
 use Rattle.world.specs.declared.condition.Condition.{Condition}
 use Rattle.world.specs.declared.condition.Condition.TheVariants.{Running, Stopped, Crashed, Ended}
@@ -8,30 +8,22 @@ use Rattle.world.specs.declared.condition.Condition.TheVariants.{Running, Stoppe
 -- it takes part in what happens
 abbrev pub runs : Condition → Bool
 runs Running = true
-runs Stopped = false
-runs Crashed = false
-runs Ended = false
+runs condition = false
 
 -- a fence of its device failed, and it does nothing more until it has crashed and was opened again
 abbrev pub has_stopped : Condition → Bool
-has_stopped Running = false
 has_stopped Stopped = true
-has_stopped Crashed = false
-has_stopped Ended = false
+has_stopped condition = false
 
 -- it is crashed, and may be opened again
 abbrev pub has_crashed : Condition → Bool
-has_crashed Running = false
-has_crashed Stopped = false
 has_crashed Crashed = true
-has_crashed Ended = false
+has_crashed condition = false
 
 -- nothing happens to it any more: a primary that was fenced, or a standby that was promoted
 abbrev pub has_ended : Condition → Bool
-has_ended Running = false
-has_ended Stopped = false
-has_ended Crashed = false
 has_ended Ended = true
+has_ended condition = false
 
 -- there is its device, as its node left it, and it does nothing
 abbrev pub is_still : Condition → Bool

@@ -1,30 +1,18 @@
 -- What an event has to do beside its step of the machine: to what has ended and to what tells of it, to a frame, to an image that crashes or is opened again, and to a
 -- device that is asked to fail.
-use Rattle.std.specs.Prelude.{◌≡◌, ◌⊎◌, ℕ, ◌==◌, if◌then◌else◌, Bool, true, false, List, [], ◌∷◌, ◌++◌, Some, None, Vec, Result, Ok}
-use Rattle.std.specs.Global.{Global}
-use Rattle.kv_types.specs.declared.refusal.Refusal.{Refusal}
-use Rattle.pmem.specs.Device.{State, newest_at}
+use Rattle.std.specs.Prelude.{◌≡◌, ◌⊎◌, ℕ, ◌+◌, ◌==◌, if◌then◌else◌, Bool, true, false, List, [], ◌∷◌, ◌++◌, Some, None, Vec, Result, Ok}
+use Rattle.world.specs.Words.{Apply, ClearGap, Clears, CloseGroup, ClosesOne, Contents, Crash, Cut, Event, FailFence, floor_raised, Frame, Free, Freed, FreeList, Global, image_of, IsImage, IsOver, IsReopened, IsSettled, IsTakenNext, moment, newest_at, picked, Refusal, Reopen, Same, Sequencing, State, TakesBack, words_to_crash}
 use Rattle.pmem.specs.Device.Fences.{Sure}
-use Rattle.pmem.specs.Crash.{IsImage, IsSettled, image_of, picked}
-use Rattle.model.specs.declared.work.FreeList.{FreeList}
+use Rattle.pmem.specs.Runs.{HasPassed}
 use Rattle.model.specs.declared.record.Role.TheVariants as Role
-use Rattle.model.specs.Floor.{floor_raised}
-use Rattle.model.specs.Group.{Contents}
 use Rattle.placing.specs.Place.{HasRoomFor}
-use Rattle.wbl_engine.specs.declared.freeing.Freed.{Freed}
-use Rattle.wbl_engine.specs.Contents.{Same}
-use Rattle.wbl_engine.specs.Freeing.{Clears, after_free, extents_of}
-use Rattle.redis_core.specs.Sequencing.{Sequencing, TakesBack}
-use Rattle.primary.specs.Closing.{ClosesOne}
-use Rattle.primary.specs.Resuming.{IsOver}
-use Rattle.frames.specs.declared.frame.Frame.{Frame}
-use Rattle.standby.specs.Following.{IsTakenNext, NoGapIsLeft}
-use Rattle.wbl_engine.specs.Restarting.{IsReopened}
-use Rattle.machine.specs.declared.event.Event.{Event}
-use Rattle.machine.specs.declared.event.Event.TheVariants.{AcceptFreed, Apply, ClearGap, CloseGroup, Crash, FailFence, Free, Reopen}
+use Rattle.wbl_engine.specs.Freeing.{after_free, extents_of}
+use Rattle.standby.specs.Following.{NoGapIsLeft}
+use Rattle.machine.specs.declared.event.Cut.TheVariants as cut
+use Rattle.machine.specs.declared.event.Event.TheVariants.{AcceptFreed}
 use Rattle.machine.specs.declared.event.Node.TheVariants as node
 use Rattle.world.specs.Committing.{reached_now}
-use Rattle.world.specs.Pair.{Pair}
+use Rattle.world.specs.Pair.{Pair, second_device}
 use Rattle.world.specs.Standby.{Node}
 
 -- a fact that holds where an event did its step
@@ -83,6 +71,19 @@ pub record LeavesPicked (picks : List ℕ) (old new : State) : Type 0 where
   pub image : IsImage old.words (image_of new.words)
   pub picked_are : new.starved ≡ false → (word : ℕ) → newest_at new word ≡ picked old.words picks word
 
+-- The device went on from `old`, and crashed as of k calls of it after that: each word has the candidate of that moment that the picks name, where the device had the memory to do so.
+-- Where fewer calls were made it crashed at the end of them.
+pub record LeavesCut (k : ℕ) (picks : List ℕ) (old new : State) : Type 0 where
+  pub settled : IsSettled new.words
+  pub last : State
+  pub went : HasPassed old last
+  pub picked_are : new.starved ≡ false → (word : ℕ) → newest_at new word ≡ picked (words_to_crash last (Some (moment old + k))) picks word
+
+-- between two events, and then no fence failed; or inside a call
+abbrev pub LeavesOf : Cut → ℕ → List ℕ → State → State → Type 0
+LeavesOf cut.Between k picks old new = LeavesPicked picks old new × (new.failures ≡ old.failures)
+LeavesOf call k picks old new = LeavesCut k picks old new
+
 -- ---- a fence that is to fail
 
 -- The n-th fence of the device from now was asked to fail, counted from 1, or none where n is 0; and nothing else of it changed.
@@ -99,8 +100,9 @@ Effect Free result old new = OnDid result (FreesOldest (reached_now old.primary.
 Effect AcceptFreed result old new = OnDid result (TakesOldest old.primary.sequencer old.primary.notices new.primary.sequencer new.primary.notices)
 Effect ClearGap result old new = OnDid result (ClearsOldest old.primary.contents old.primary.notices new.primary.contents new.primary.notices)
 Effect Apply result old new = OnDid result (AnswersFirst old.wire.arrivals.delivered.items old.wire.arrivals.acknowledgements.items new.wire.arrivals.acknowledgements.items old.standby new.standby)
-Effect (Crash node.Primary call k picks) result old new = OnDid result (LeavesPicked picks.items old.primary.device new.primary.device)
-Effect (Crash node.Standby call k picks) result old new = OnDid result (LeavesPicked picks.items old.standby.device new.standby.device)
+Effect (Crash node.Primary call k picks) result old new = OnDid result (LeavesOf call k picks.items old.primary.device new.primary.device)
+-- (by its number, as the device is the primary's from then on where its image is)
+Effect (Crash node.Standby call k picks) result old new = OnDid result (LeavesOf call k picks.items (second_device old) (second_device new))
 Effect (Reopen node.Primary) result old new = OnDid result (IsReopened old.primary.device.lines (image_of old.primary.device.words) Role.Primary new.primary.contents × IsOver new.primary.contents new.primary.sequencer)
 Effect (Reopen node.Standby) result old new = OnDid result (IsReopened old.standby.device.lines (image_of old.standby.device.words) Role.Standby new.standby.contents)
 Effect event result old new = Unit {0}

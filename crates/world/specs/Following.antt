@@ -1,6 +1,7 @@
 -- The node that follows the primary is a standby: no newcomer plays here. Where it stands after the frame that it takes next.
 use Rattle.std.specs.Prelude.{◌≡◌, ℕ, List, ◌∷◌}
-use Rattle.machine.specs.Event.{At, Follower, Frame, Remains, Standby, World, left_by_first}
+use Rattle.world.specs.Words.{At, Follower, left_by_first, Remains, World}
+use Rattle.machine.specs.Event.{Frame, Standby}
 
 -- it is a standby of this epoch
 pub record HasFollower (epoch : ℕ) (standby : Standby) : Type 0 where

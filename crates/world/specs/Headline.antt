@@ -1,28 +1,15 @@
 -- The word that a run keeps: the promise, between any two events, and what a crash leaves of both images at any moment of the run.
-use Rattle.std.specs.Prelude.{◌≡◌, ◌⊎◌, ℕ, ◌≤◌, ◌&&◌, ◌||◌, not, nat_eq, if◌then◌else◌, Bool, true, false, List, [], ◌∷◌, ◌++◌, take, slice_get, slice_index_or, Option, Some, None, Vec}
-use Rattle.std.specs.Global.{Global}
-use Rattle.pmem.specs.Device.{State}
-use Rattle.pmem.specs.Runs.{LeavesOnly}
-use Rattle.kv_types.specs.declared.refusal.Refusal.{Refusal}
-use Rattle.model.specs.declared.call.Call.{Call}
-use Rattle.model.specs.declared.record.Role.TheVariants.{Primary, Standby}
-use Rattle.model.specs.Call.{cut_at, position_of}
-use Rattle.model.specs.Image.{Image}
-use Rattle.model.specs.Standing.{Holder}
-use Rattle.machine.specs.declared.event.Event.{Event}
-use Rattle.machine.specs.declared.event.Event.TheVariants.{Promote}
-use Rattle.machine.specs.declared.event.Node.{Node}
+use Rattle.std.specs.Prelude.{◌≡◌, ◌⊎◌, ℕ, ◌≤◌, ◌&&◌, ◌||◌, nat_eq, if◌then◌else◌, Bool, true, false, List, [], ◌∷◌, ◌++◌, take, slice_get, slice_index_or, Option, Some, None, Vec}
+use Rattle.world.specs.Words.{AsFollower, AsPrimary, At, Call, cut_at, Event, Global, Holder, Image, is_enabled, IsPromised, IsReleased, last_world, LeavesOnly, life_of, Node, position_at, position_of, Primary, Promote, Refusal, released_in, released_of, Remains, Run, Standby, State, Step, torn, touches, World}
 use Rattle.machine.specs.declared.event.Node.TheVariants as node
-use Rattle.machine.specs.Event.{AsFollower, AsPrimary, At, Remains, Run, World, is_enabled, is_stopped, life_of, start_with, last_world, position_at, torn}
-use Rattle.machine.specs.Row.{touches}
-use Rattle.machine.specs.Promise.{IsPromised, IsReleased, released_in}
+use Rattle.machine.specs.Event.{start_with}
 use Rattle.world.specs.Committing.{OpensAt, FormattingOnly, next_primary, next_standby, promoted_holder}
 use Rattle.world.specs.Cause.{Stretch, OrLies, Promoting, Resting, UnformedBy, EndsBy}
 use Rattle.world.specs.Condition.{has_ended}
-use Rattle.world.specs.Cutting.{cut_short, is_cut}
-use Rattle.world.specs.Remaining.{OpensNear}
+use Rattle.world.specs.Remaining.{OpensNear, cut_short, is_cut, stops_between}
 use Rattle.world.specs.Link.{AreAcksSent, AreFramesSent}
 use Rattle.world.specs.Pair.{HasStandby, Pair, NodesRefine, IsCut, IsPromotionCut, allowed, first_device, second_device}
+use Rattle.world.specs.declared.history.History.{History}
 use Rattle.world.specs.declared.trace.EarlyEnd.{EarlyEnd}
 use Rattle.world.specs.declared.trace.EarlyEnd.TheVariants.{AtFormatting, AtEvent}
 
@@ -117,18 +104,15 @@ KeepsReleased final number lines w events worlds old new =
     OfNode (node_on number w) (λ n. (prefix : List Call) (call : Call) → IsReleased w.primary.calls (released_in w) prefix call
     → LeavesOnly old new (OpensIn final number lines (position_of (prefix ++ call ∷ [])) w events worlds))
 
--- the image opens as that of this node in this world, over this list: where it stands there, or as a call in which a fence failed would have left it, or as one of these
+-- the image opens as that of this node in this world, over this list: where it stands there, or as one of these
 abbrev pub OpensThere : ℕ → World → Node → List Call → List Remains → Image → Type 0
-OpensThere lines w n calls others image = OpensNear (holder_at lines w n) calls (position_at w n) (torn (life_of w n) ++ others) image
-
--- the node stops between these two worlds
-abbrev pub stops_between : World → World → Node → Bool
-stops_between w w' n = not (is_stopped (life_of w n)) && is_stopped (life_of w' n)
+OpensThere lines w n calls others image = OpensNear (holder_at lines w n) calls (position_at w n) others image
 
 -- Each crash between these two states leaves an image that opens, over the list of the first world, as it may in that world, or as it may in the second one as that of the node whose device it is
--- then; or as a call that the event cut would have left it. And no fence failed, but perhaps in such a call; or the node stopped.
+-- then: where the node stands there, or as a call in which a fence failed would have left it; or as a call that the event cut would have left it. And no fence failed, but perhaps in such a call; or the node stopped.
 pub record MovesOn (lines : ℕ) (w : World) (event : Event) (w' : World) (before : Node) (after : Option Node) (old new : State) : Type 0 where
-  pub leaves : LeavesOnly old new (λ image. OpensThere lines w before w.primary.calls (cut_short w event before) image ⊎ OfSomeNode after (λ n. OpensThere lines w' n w.primary.calls [] image))
+  pub leaves : LeavesOnly old new (λ image.
+      OpensThere lines w before w.primary.calls (torn (life_of w before) ++ cut_short w event before) image ⊎ OfSomeNode after (λ n. OpensThere lines w' n w.primary.calls (torn (life_of w' n)) image))
   pub failures : (is_cut event || stops_between w w' before) ≡ false → new.failures ≡ old.failures
 
 -- what an event does to a device; one that is no node's stays as it is, with all that it has gone through
@@ -170,67 +154,108 @@ pub record HasSent (w : World) (frames acknowledgements : List (Vec ℕ Global))
   pub frames_are : AreFramesSent w.primary.epoch w.primary.calls frames w.wire.frames
   pub acknowledgements_are : AreAcksSent acknowledgements w.wire.acknowledgements
 
--- All or some of these events did their step, and moved the two devices on from where they were formatted: the first, number 0, was given as the primary's, the second, number 1,
--- as the standby's. The list of calls and the released bytes, by
--- connection, are as promised, and the messages are those of the last world. `Last` holds of it.
-pub record IsKept (Last : World → Type 0) (final : Node → Opening) (first_last second_last : Stretch) (first_lines second_lines : ℕ) (events : List Event) (done : List Bool) (calls : List Call) (released : List (List ℕ)) (frames acknowledgements : List (Vec ℕ Global)) (primary standby primary' standby' : State) : Type 0 where
+-- ---- what a run gave
+
+-- What anyone was given in a run: for each event that was reached, whether it did its step; the list of calls; the released bytes, by connection; and the bytes of the frames that passed and
+-- of the acknowledgements that were made.
+pub record Given : Type 0 where
+  pub done : List Bool
+  pub calls : List Call
+  pub released : List (List ℕ)
+  pub frames : List (Vec ℕ Global)
+  pub acknowledgements : List (Vec ℕ Global)
+
+abbrev pub given_by : List Bool → History → Given
+given_by done history =
+    record { done = done; calls = history.transcript.calls.items; released = released_of history.transcript; frames = history.frames.items; acknowledgements = history.acknowledgements.items }
+
+abbrev pub none_given : Given
+none_given = record { done = []; calls = []; released = []; frames = []; acknowledgements = [] }
+
+-- The states of the two devices: the first, number 0, was given as the primary's, the second, number 1, as the standby's.
+pub record Devices : Type 0 where
+  pub first : State
+  pub second : State
+
+abbrev pub devices_of : State → State → Devices
+devices_of first second = record { first = first; second = second }
+
+-- ---- how it ends
+
+-- What the last world of a run is, what a crash leaves of each node's image in the end, and how each node's device moves after the last event.
+pub record Ending : Type 1 where
+  pub Last : World → Type 0
+  pub final : Node → Opening
+  pub last : Node → Stretch
+
+-- after the last event
+abbrev pub at_the_end : Ending
+at_the_end = record { Last = AnyWorld; final = each OpensFrom OpensFrom; last = each Resting Resting }
+
+-- in the middle of this event, with these stretches
+abbrev pub in_event : Event → Stretch → Stretch → Ending
+in_event event first_last second_last = record { Last = Enables event; final = each OpensFrom OpensFrom; last = each first_last second_last }
+
+-- in a promotion, for this cause: the standby's image may be promoted
+abbrev pub in_promotion : Refusal → Ending
+in_promotion refusal = record { Last = Enables Promote; final = each OpensFrom OpensFromEither; last = each Resting (Promoting refusal) }
+
+-- The run went to the end of the events; or it ended in the middle of one, which was enabled, for a cause that such an event may have.
+abbrev pub Went : (Ending → List Event → Type 0) → List Event → Option EarlyEnd → Type 0
+Went Kept events None = Kept at_the_end events
+Went Kept events (Some (AtFormatting refusal)) = ⊥
+Went Kept events (Some (AtEvent index refusal)) =
+    (event : Event) × (slice_get events index ≡ Some event)
+    × (EndsBy refusal event (λ first_last second_last. Kept (in_event event first_last second_last) (take index events)) ⊎ ((event ≡ Promote) × Kept (in_promotion refusal) (take index events)))
+
+-- ---- the word
+
+-- All or some of these events did their step, and moved the two devices on from where they were formatted. The list of calls and the released bytes are as promised, and the messages are those of
+-- the last world.
+pub record IsKept (ending : Ending) (first_lines second_lines : ℕ) (events : List Event) (given : Given) (old new : Devices) : Type 0 where
   -- the positions of the two nodes at the end
   pub primary_at : ℕ
   pub standby_at : ℕ
-  pub promised : IsPromised allowed events done calls (λ c. slice_index_or released c []) primary_at standby_at
-  pub last : Last (last_world start promised.worlds)
-  pub messages : HasSent (last_world start promised.worlds) frames acknowledgements
+  pub promised : IsPromised allowed events given.done given.calls (λ c. slice_index_or given.released c []) primary_at standby_at
+  pub last : ending.Last (last_world start promised.worlds)
+  pub messages : HasSent (last_world start promised.worlds) given.frames given.acknowledgements
   -- the moments of either device, cut by the same events
-  pub primary_moments : AreMoments final (each first_last second_last) 0 first_lines start events done promised.worlds primary primary'
-  pub standby_moments : AreMoments final (each first_last second_last) 1 second_lines start events done promised.worlds standby standby'
+  pub primary_moments : AreMoments ending.final ending.last 0 first_lines start events given.done promised.worlds old.first new.first
+  pub standby_moments : AreMoments ending.final ending.last 1 second_lines start events given.done promised.worlds old.second new.second
 
 -- The first device was formatted as primary and the second as standby, and then the events happened.
-pub record IsPlayed (Last : World → Type 0) (final : Node → Opening) (first_last second_last : Stretch) (events : List Event) (done : List Bool) (calls : List Call) (released : List (List ℕ)) (frames acknowledgements : List (Vec ℕ Global)) (primary standby primary' standby' : State) : Type 0 where
-  pub primary_formatted : State
-  pub standby_formatted : State
+pub record IsPlayed (ending : Ending) (events : List Event) (given : Given) (old new : Devices) : Type 0 where
+  pub formatted : Devices
   -- a crash leaves an image from before, the new one, or one without the magic
-  pub primary_formatting : FormattingOnly Primary primary primary_formatted
-  pub standby_formatting : FormattingOnly Standby standby standby_formatted
-  pub kept : IsKept Last final first_last second_last primary.lines standby.lines events done calls released frames acknowledgements primary_formatted standby_formatted primary' standby'
+  pub primary_formatting : FormattingOnly Primary old.first formatted.first
+  pub standby_formatting : FormattingOnly Standby old.second formatted.second
+  pub kept : IsKept ending old.first.lines old.second.lines events given formatted new
 
 -- Nothing was called: all that was done to the devices was done by their formatting, which ended for this cause.
-pub record IsUnplayed (refusal : Refusal) (done : List Bool) (calls : List Call) (released : List (List ℕ)) (frames acknowledgements : List (Vec ℕ Global)) (primary standby primary' standby' : State) : Type 0 where
-  pub done_none : done ≡ []
-  pub calls_none : calls ≡ []
-  pub released_none : released ≡ []
-  pub frames_none : frames ≡ []
-  pub acknowledgements_none : acknowledgements ≡ []
-  pub primary_formatting : FormattingOnly Primary primary primary'
-  pub standby_formatting : FormattingOnly Standby standby standby'
-  pub cause : UnformedBy refusal primary standby primary' standby'
+pub record IsUnplayed (refusal : Refusal) (given : Given) (old new : Devices) : Type 0 where
+  pub none : given ≡ none_given
+  pub primary_formatting : FormattingOnly Primary old.first new.first
+  pub standby_formatting : FormattingOnly Standby old.second new.second
+  pub cause : UnformedBy refusal old.first old.second new.first new.second
 
--- in a run that ended in a promotion the standby's image may be promoted
-abbrev pub opens_in_the_end : Node → Opening
-opens_in_the_end = each OpensFrom OpensFromEither
-
-abbrev pub opens_always : Node → Opening
-opens_always = each OpensFrom OpensFrom
-
--- A run that led these two devices from their old states to their new ones went to the end of the events; or it ended before the first one; or it ended in
--- the middle of one, which was enabled, for a cause that such an event may have.
-abbrev pub KeepsItsWord : List Event → Option EarlyEnd → List Bool → List Call → List (List ℕ) → List (Vec ℕ Global) → List (Vec ℕ Global) → State → State → State → State → Type 0
-KeepsItsWord events None done calls released frames acknowledgements primary standby primary' standby' = IsPlayed AnyWorld opens_always Resting Resting events done calls released frames acknowledgements primary standby primary' standby'
-KeepsItsWord events (Some (AtFormatting refusal)) done calls released frames acknowledgements primary standby primary' standby' = IsUnplayed refusal done calls released frames acknowledgements primary standby primary' standby'
-KeepsItsWord events (Some (AtEvent index refusal)) done calls released frames acknowledgements primary standby primary' standby' =
-    (event : Event) × (slice_get events index ≡ Some event)
-    × (EndsBy refusal event (λ first_last second_last. IsPlayed (Enables event) opens_always first_last second_last (take index events) done calls released frames acknowledgements primary standby primary' standby')
-    ⊎ ((event ≡ Promote) × IsPlayed (Enables Promote) opens_in_the_end Resting (Promoting refusal) (take index events) done calls released frames acknowledgements primary standby primary' standby'))
+-- A run that led these devices from their old states to their new ones went to the end of the events, or ended in one; or it ended before the first.
+abbrev pub KeepsItsWord : List Event → Option EarlyEnd → Given → Devices → Devices → Type 0
+KeepsItsWord events (Some (AtFormatting refusal)) given old new = IsUnplayed refusal given old new
+KeepsItsWord events ended given old new = Went (λ ending passed. IsPlayed ending passed given old new) events ended
 
 -- ---- how it is played
 
 -- the same, of a run over a pair of new nodes
-abbrev pub PlaysOn : Holder → Holder → List Event → Option EarlyEnd → List Bool → List Call → List (List ℕ) → List (Vec ℕ Global) → List (Vec ℕ Global) → State → State → State → State → Type 0
-PlaysOn first second events None done calls released frames acknowledgements primary standby primary' standby' = IsKept AnyWorld opens_always Resting Resting first.lines second.lines events done calls released frames acknowledgements primary standby primary' standby'
-PlaysOn first second events (Some (AtFormatting refusal)) done calls released frames acknowledgements primary standby primary' standby' = ⊥
-PlaysOn first second events (Some (AtEvent index refusal)) done calls released frames acknowledgements primary standby primary' standby' =
-    (event : Event) × (slice_get events index ≡ Some event)
-    × (EndsBy refusal event (λ first_last second_last. IsKept (Enables event) opens_always first_last second_last first.lines second.lines (take index events) done calls released frames acknowledgements primary standby primary' standby')
-    ⊎ ((event ≡ Promote) × IsKept (Enables Promote) opens_in_the_end Resting (Promoting refusal) first.lines second.lines (take index events) done calls released frames acknowledgements primary standby primary' standby'))
+abbrev pub PlaysOn : Holder → Holder → List Event → Option EarlyEnd → Given → Devices → Devices → Type 0
+PlaysOn first second events ended given old new = Went (λ ending passed. IsKept ending first.lines second.lines passed given old new) events ended
+
+-- what a pair gave, and its devices
+abbrev pub given_in : List Bool → Pair → Given
+given_in done pair =
+    record { done = done; calls = pair.clients.transcript.calls.items; released = released_of pair.clients.transcript; frames = pair.wire.frames; acknowledgements = pair.wire.arrivals.acknowledgements.items }
+
+abbrev pub devices_in : Pair → Devices
+devices_in pair = devices_of (first_device pair) (second_device pair)
 
 -- whose device it is after an event: the same node's, in the same epoch; or there was a promotion, and it is no node's any more, or that of the primary which the standby became
 abbrev pub Passes : World → World → Option Node → Option Node → Type 0
@@ -239,20 +264,23 @@ Passes w w' (Some node.Primary) after = ((after ≡ Some node.Primary) × (w'.pr
 Passes w w' (Some node.Standby) after =
     ((after ≡ Some node.Standby) × (w'.primary.epoch ≡ w.primary.epoch)) ⊎ ((after ≡ Some node.Primary) × (w'.primary.committer.position ≡ w.standby.position) × (w'.primary.calls ≡ cut_at w.primary.calls w.standby.position))
 
--- The events of a run from this world on, each over the list of calls before it, moved the device with this number on, but for those that do not touch it.
+-- what an event did to the device with this number: one that it does not touch, or that was not enabled, is as it was
+abbrev pub Moved : ℕ → ℕ → World → World → Event → Bool → State → State → Type 0
+Moved number lines w w' event did old new =
+    Passes w w' (node_on number w) (node_on number w') × MovesBy lines w event w' (node_on number w) (node_on number w') old new × ((touches_on (node_on number w) event && did) ≡ false → new ≡ old)
+
+-- The events of a run from this world on, each over the list of calls before it, moved the device with this number on.
 abbrev pub AreMoves : ℕ → ℕ → World → List Event → List Bool → List World → State → State → Type 0
 AreMoves number lines w [] [] [] old new = old ≡ new
-AreMoves number lines w (event ∷ events) (did ∷ done) (w' ∷ worlds) old new =
-    (next : State) × Passes w w' (node_on number w) (node_on number w') × MovesBy lines w event w' (node_on number w) (node_on number w') old next
-    × ((touches_on (node_on number w) event && did) ≡ false → next ≡ old) × AreMoves number lines w' events done worlds next new
+AreMoves number lines w (event ∷ events) (did ∷ done) (w' ∷ worlds) old new = (next : State) × Moved number lines w w' event did old next × AreMoves number lines w' events done worlds next new
 AreMoves number lines w events done worlds old new = ⊥
 
 -- the machine's run over these events moved both devices, of so many lines, to these states from where they were in the pair `began`
-pub record Reaches (first_lines second_lines : ℕ) (began : Pair) (events : List Event) (done : List Bool) (primary standby : State) : Type 0 where
+pub record Reaches (first_lines second_lines : ℕ) (began : Pair) (events : List Event) (done : List Bool) (last : Devices) : Type 0 where
   pub worlds : List World
   pub run : Run start events done worlds
-  pub primary_moves : AreMoves 0 first_lines start events done worlds (first_device began) primary
-  pub standby_moves : AreMoves 1 second_lines start events done worlds (second_device began) standby
+  pub primary_moves : AreMoves 0 first_lines start events done worlds (first_device began) last.first
+  pub standby_moves : AreMoves 1 second_lines start events done worlds (second_device began) last.second
 
 -- the pair refines this world, with holders of so many lines, by the numbers of their devices
 pub record StandsIn (first_lines second_lines : ℕ) (pair : Pair) (w : World) : Type 0 where
@@ -262,15 +290,23 @@ pub record StandsIn (first_lines second_lines : ℕ) (pair : Pair) (w : World) :
   pub serving_lines : serving.lines ≡ (if has_ended pair.lives.standby then second_lines else first_lines)
   pub following_lines : HasStandby pair → following.lines ≡ second_lines
 
+-- it went from one world to the next, and both devices with it
+pub record GoesOn (first_lines second_lines : ℕ) (old new : Pair) (event : Event) (did : Bool) (w : World) : Type 0 where
+  pub world : World
+  pub step : Step w event did world
+  pub stands : StandsIn first_lines second_lines new world
+  pub first_moved : Moved 0 first_lines w world event did (first_device old) (first_device new)
+  pub second_moved : Moved 1 second_lines w world event did (second_device old) (second_device new)
+
 -- and the pair refines the last world
 pub record StandsAfter (first_lines second_lines : ℕ) (began : Pair) (events : List Event) (done : List Bool) (pair : Pair) : Type 0 where
-  pub reaches : Reaches first_lines second_lines began events done (first_device pair) (second_device pair)
+  pub reaches : Reaches first_lines second_lines began events done (devices_in pair)
   pub stands : StandsIn first_lines second_lines pair (last_world start reaches.worlds)
 
 -- or it was cut in the event after them
 pub record IsCutAfter (first_lines second_lines : ℕ) (began : Pair) (events : List Event) (event : Event) (refusal : Refusal) (done : List Bool) (pair : Pair) : Type 0 where
   pub before : Pair
-  pub reaches : Reaches first_lines second_lines began events done (first_device before) (second_device before)
+  pub reaches : Reaches first_lines second_lines began events done (devices_in before)
   pub stands : StandsIn first_lines second_lines before (last_world start reaches.worlds)
   pub frames : pair.wire.frames ≡ before.wire.frames
   pub acknowledgements : pair.wire.arrivals.acknowledgements.items ≡ before.wire.arrivals.acknowledgements.items

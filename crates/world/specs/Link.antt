@@ -1,18 +1,7 @@
 -- How the link, and the bytes that passed over it both ways, refine the machine's.
 use Rattle.std.specs.Prelude.{◌≡◌, ℕ, ◌<◌, ◌≤◌, List, [], ◌∷◌, drop, length, None, Vec}
-use Rattle.std.specs.Global.{Global}
-use Rattle.model.specs.declared.call.Call.{Call}
-use Rattle.model.specs.declared.group.Group.{Group}
-use Rattle.kv_types.specs.Keyspace.{play_all}
-use Rattle.kv_types.specs.Change.{changes_size}
-use Rattle.model.specs.Call.{cut_at, keyspace_after, position_of}
-use Rattle.machine.specs.Event.{Changes, End, Follows, Link as Machine, Part, Span, Told, Frame as Sent, Acknowledgement, option_items}
-use Rattle.pipes.specs.Waiting.{Waiting}
-use Rattle.frames.specs.declared.frame.Frame.{Frame}
-use Rattle.standby_stream.specs.Stream.{Stream}
-use Rattle.stream_codec.specs.declared.message.TheConstants.{MAX_BODY_BYTES}
-use Rattle.stream_codec.specs.Message.{Acknowledged, IsSent, sent_of_frame, sent_text}
-use Rattle.node_steps.specs.GroupSpan.{AreGroupsOf}
+use Rattle.world.specs.Words.{Acknowledged, Acknowledgement, AreGroupsOf, Call, Changes, changes_size, cut_at, End, Frame, Global, Group, IsSent, keyspace_after, MAX_BODY_BYTES, option_items, Part, play_all, position_of, Sent, sent_of_frame, sent_text, Span, Stream, Told, Waiting}
+use Rattle.machine.specs.Event.{Follows, Link as Machine}
 
 -- the span lies within the list
 pub record LiesWithin (calls : List Call) (span : Span) : Type 0 where

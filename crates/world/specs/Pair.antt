@@ -1,42 +1,20 @@
 -- How a pair of nodes with its connections refines the machine's, while its primary runs, while it is crashed, and once it has stopped or was fenced.
-use Rattle.std.specs.Prelude.{◌≡◌, ◌⊎◌, ℕ, ◌<◌, Bool, true, false, if◌then◌else◌, List, [], length, slice_index_or, All, Vec, vec_capacity, Result, IfOk, IfErr}
-use Rattle.std.specs.Global.{Global}
-use Rattle.pmem.specs.Crash.{IsImage}
-use Rattle.pmem.specs.Device.{State}
-use Rattle.kv_types.specs.declared.refusal.Refusal.{Refusal}
-use Rattle.model.specs.declared.group.Group.{Group}
-use Rattle.wbl_engine.specs.declared.freeing.Freed.{Freed}
-use Rattle.model.specs.Group.{Contents}
+use Rattle.std.specs.Prelude.{◌≡◌, ◌⊎◌, ℕ, ◌<◌, Bool, true, false, if◌then◌else◌, List, [], ◌++◌, length, slice_index_or, All, Vec, vec_capacity, Result, IfOk, IfErr}
+use Rattle.world.specs.Words.{Acknowledgement, AddsOne, Allowed, are_running, Call, Connection, Connections, Contents, cut_at, Event, Follower, Freed, Global, Group, HasSeat, Holder, Image, is_enabled, IsImage, LeavesOnly, new_committer, new_link, Opening, position_of, Promote, Refusal, released_in, released_of, Remains, row, safe_position, seats_of, SeatsFollow, SequencerRefines, Sequencing, SessionsRefine, Sound, State, Step, Stream, torn, Transcript, Waiting, World}
 use Rattle.model.specs.declared.record.Role.TheVariants as Role
-use Rattle.model.specs.declared.call.Call.{Call}
-use Rattle.model.specs.Call.{position_of}
-use Rattle.model.specs.Image.{Image}
-use Rattle.model.specs.Standing.{Holder}
-use Rattle.pipes.specs.Waiting.{Waiting}
-use Rattle.redis_core.specs.Sequencing.{Sequencing}
-use Rattle.standby_stream.specs.Stream.{Stream}
-use Rattle.standby_stream.specs.declared.opening.Opening.{Opening}
-use Rattle.machine.specs.declared.event.Event.{Event}
 use Rattle.machine.specs.declared.event.Cut.TheVariants as cut
-use Rattle.machine.specs.Event.{Acknowledgement, Allowed, Connection, Follower, Frame, Remains, World, Step, is_enabled, new_committer, new_link, safe_position, torn}
-use Rattle.machine.specs.Row.{are_running, row}
-use Rattle.machine.specs.Promise.{released_in}
-use Rattle.machine.specs.Sound.{Sound}
-use Rattle.pmem.specs.Runs.{LeavesOnly}
-use Rattle.machine.specs.declared.event.Event.TheVariants.{Promote}
+use Rattle.machine.specs.declared.event.Node.TheVariants as node
+use Rattle.machine.specs.Event.{Frame}
 use Rattle.world.specs.Cause.{EndsBy, OrLies, Promoting}
-use Rattle.world.specs.Committing.{Committing, EngineStands, IsDown, Leads, OpensAsEither, CommittingRefines, next_primary, next_standby, promoted_holder}
+use Rattle.world.specs.Committing.{Committing, EngineStands, IsDown, Leads, OpensAt, CommittingRefines, next_primary, next_standby, promoted_holder}
 use Rattle.world.specs.Condition.{has_crashed, has_ended, is_still, life_as, runs}
 use Rattle.world.specs.declared.condition.AskedFences.{AskedFences}
 use Rattle.world.specs.declared.condition.Condition.{Condition}
 pub use Rattle.node_steps.specs.Node.{FreeingRefines}
 use Rattle.world.specs.Link.{IsOwn, AreFramesSent, LinkRefines}
 use Rattle.world.specs.Recalling.{OpeningLeads, RecallsFor, RemembersFor, past_of}
-use Rattle.world.specs.Remaining.{LeftBy, MovesNear}
-use Rattle.connections.specs.Session.{SessionsRefine, SequencerRefines, SeatsFollow, HasSeat, AddsOne, released_of, seats_of}
+use Rattle.world.specs.Remaining.{LeftBy, MovesAs, OpensNear, cut_short, is_cut}
 use Rattle.world.specs.Standby.{Arrived, Node, StandbyRefines, ArrivalsRefine}
-use Rattle.connections.specs.declared.connections.Connections.{Connections}
-use Rattle.connections.specs.declared.transcript.Transcript.{Transcript}
 
 -- ---- what a pair is made of
 
@@ -237,30 +215,34 @@ pub record HasWorld (pair : Pair) : Type 0 where
 pub record HasRoom (pair : Pair) : Type 0 where
   pub room : length pair.clients.transcript.calls.items < vec_capacity pair.clients.transcript.calls
 
+-- the list of calls and the released bytes are those of the world
+pub record ToldAs (transcript : Transcript) (w : World) : Type 0 where
+  pub calls : transcript.calls.items ≡ w.primary.calls
+  pub released : (c : ℕ) → slice_index_or (released_of transcript) c [] ≡ released_in w c
+  pub count : length transcript.released.items ≡ length w.primary.connections
+
 -- An enabled event was cut for this cause: the list of calls and the released bytes are those of the world before it.
 pub record IsCut (first second : Holder) (event : Event) (refusal : Refusal) (old new : Pair) (w : World) : Type 0 where
   pub enabled : is_enabled w event ≡ true
-  pub calls : new.clients.transcript.calls.items ≡ w.primary.calls
-  pub released : (c : ℕ) → slice_index_or (released_of new.clients.transcript) c [] ≡ released_in w c
-  pub count : length new.clients.transcript.released.items ≡ length w.primary.connections
+  pub told : ToldAs new.clients.transcript w
+  pub open told use *
   -- no standby was promoted
   pub standby : has_ended new.lives.standby ≡ has_ended old.lives.standby
   pub cause : EndsBy refusal event (λ first_last second_last.
       OrLies first_last first w.primary.calls w.primary.committer.position (next_primary w) (torn w.primary.life) old.primary.device new.primary.device
       × (HasStandby old → OrLies second_last second w.primary.calls w.standby.position (next_standby w) (torn w.standby.life) old.standby.device new.standby.device))
 
--- The step from one pair to the other moved each device, over the list of calls before it, from where its node stands in one world to where it stands in the other. (Of a
--- standby that was promoted before nothing is said.)
-pub record MovesBoth (first second : Holder) (old new : Pair) (w w' : World) : Type 0 where
-  pub primary : MovesNear first w.primary.calls w.primary.committer.position w'.primary.committer.position (torn w.primary.life) old.primary.device new.primary.device
-  pub standby : HasStandby old → MovesNear second w.primary.calls w.standby.position w'.standby.position (torn w.standby.life) old.standby.device new.standby.device
+-- The event moved each device as its node went from one world to the other. (Of a standby that was promoted before nothing is said.)
+pub record MovesBoth (first second : Holder) (event : Event) (old new : Pair) (w w' : World) : Type 0 where
+  pub primary : MovesAs first w event w' node.Primary old.primary.device new.primary.device
+  pub standby : HasStandby old → MovesAs second w event w' node.Standby old.standby.device new.standby.device
 
 -- the machine's step, the world that the pair refines after it, and what the step did to the devices
 pub record Steps (first second : Holder) (w : World) (event : Event) (did : Bool) (old new : Pair) : Type 0 where
   pub world : World
   pub step : Step w event did world
   pub stands : NodesRefine first second new world
-  pub moves : MovesBoth first second old new w world
+  pub moves : MovesBoth first second event old new w world
 
 -- what an event did to a pair of this kind: a step, or it was cut; it added at most one call, in the room that there was
 pub record DoesTo (Refines : Holder → Holder → Pair → World → Type 0) (old : Pair) (event : Event) (result : Result Bool Refusal) (new : Pair) : Type 0 where
@@ -285,34 +267,36 @@ first_device pair = if has_ended pair.lives.standby then pair.standby.device els
 abbrev pub second_device : Pair → State
 second_device pair = if has_ended pair.lives.standby then pair.primary.device else pair.standby.device
 
--- The standby was promoted: the machine's step, and the pair refines the world after it, whose primary has the device of the standby. A crash meanwhile leaves on that an
--- image of either; the device of the former primary is as it was.
-pub record Succeeds (second : Holder) (w : World) (old new : Pair) : Type 0 where
+-- The standby's image has become that of a primary: the machine's step, and the pair refines the world after it, whose primary has the device of the standby, and stands where that stood. A crash
+-- meanwhile leaves on that what the standby was, or might have left, or what it has become; the device of the former primary is as it was.
+pub record Succeeds (second : Holder) (w : World) (event : Event) (old new : Pair) : Type 0 where
   pub world : World
-  pub step : Step w Promote true world
+  pub step : Step w event true world
+  pub position : world.primary.committer.position ≡ w.standby.position
+  pub calls : world.primary.calls ≡ cut_at w.primary.calls w.standby.position
   -- (what is said of the holder of the former primary's device is that of no node)
   pub former : Holder
   pub began : HasStandby old
   pub ended : has_ended new.lives.standby ≡ true
   pub stands : NodesRefine (promoted_holder second) former new world
   pub first_stays : first_device new ≡ first_device old
-  pub leaves : LeavesOnly (second_device old) (second_device new) (OpensAsEither second w.primary.calls w.standby.position)
-  pub failures : (second_device new).failures ≡ (second_device old).failures
+  pub leaves : LeavesOnly (second_device old) (second_device new) (λ image.
+      OpensNear second w.primary.calls w.standby.position (torn w.standby.life ++ cut_short w event node.Standby) image ⊎ OpensAt (promoted_holder second) w.primary.calls w.standby.position image)
+  pub failures : is_cut event ≡ false → (second_device new).failures ≡ (second_device old).failures
 
 -- A promotion that was enabled was cut for this cause: the list of calls and the released bytes are those of the world before it, and the device of the former primary is as
 -- it was.
 pub record IsPromotionCut (second : Holder) (refusal : Refusal) (old new : Pair) (w : World) : Type 0 where
   pub enabled : is_enabled w Promote ≡ true
-  pub calls : new.clients.transcript.calls.items ≡ w.primary.calls
-  pub released : (c : ℕ) → slice_index_or (released_of new.clients.transcript) c [] ≡ released_in w c
-  pub count : length new.clients.transcript.released.items ≡ length w.primary.connections
+  pub told : ToldAs new.clients.transcript w
+  pub open told use *
   pub first_stays : first_device new ≡ first_device old
   pub cause : Promoting refusal second w.primary.calls w.standby.position (next_standby w) (second_device old) (second_device new)
 
--- what a promotion did to a pair
-pub record Promotes (old : Pair) (result : Result Bool Refusal) (new : Pair) : Type 0 where
-  pub succeeds : IfOk result (λ did. (did ≡ true) × ((first second : Holder) (w : World) → NodesRefine first second old w → Succeeds second w old new))
-  pub cut : IfErr result (λ refusal. (first second : Holder) (w : World) → NodesRefine first second old w → IsPromotionCut second refusal old new w)
+-- what an event did to a pair by which the standby's image became that of a primary, or a promotion that was cut
+pub record Promotes (old : Pair) (event : Event) (result : Result Bool Refusal) (new : Pair) : Type 0 where
+  pub succeeds : IfOk result (λ did. (did ≡ true) × ((first second : Holder) (w : World) → NodesRefine first second old w → Succeeds second w event old new))
+  pub cut : IfErr result (λ refusal. (event ≡ Promote) × ((first second : Holder) (w : World) → NodesRefine first second old w → IsPromotionCut second refusal old new w))
   pub calls : AddsOne old.clients.transcript.calls new.clients.transcript.calls
 
 -- the nodes that take part in the event run, where the primary and the standby do so or not; to crash, or to be opened again, none needs to run

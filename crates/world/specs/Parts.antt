@@ -1,14 +1,6 @@
 -- What the pair of the code is made of, with what happened to it.
 use Rattle.std.specs.Prelude.{Bool, List}
-use Rattle.pmem.specs.Device.{State}
-use Rattle.model.specs.declared.group.Group.{Group}
-use Rattle.model.specs.declared.work.Work.{Work}
-use Rattle.model.specs.Group.{Contents}
-use Rattle.wbl_engine.specs.declared.freeing.Freed.{Freed}
-use Rattle.mv_keyspace.specs.Table.{Table}
-use Rattle.pipes.specs.Waiting.{Waiting}
-use Rattle.redis_core.specs.Sequencing.{Sequencing}
-use Rattle.group_commit.specs.declared.committer.Committer.{Committer}
+use Rattle.world.specs.Words.{Committer, Contents, Freed, Group, Sequencing, State, Table, Waiting, Work}
 use Rattle.world.specs.Pair.{Pair, Serving}
 use Rattle.world.specs.Standby.{arrived_with, node_at}
 use Rattle.world.specs.declared.history.History.{History}

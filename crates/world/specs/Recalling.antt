@@ -1,18 +1,7 @@
 -- What a primary's image still tells of the keyspaces that the standby may stand at, over the list of calls.
 use Rattle.std.specs.Prelude.{◌≡◌, ℕ, ◌<◌, ◌≤◌, List}
-use Rattle.kv_types.specs.Change.{changes_size}
-use Rattle.kv_types.specs.Keyspace.{play_all}
-use Rattle.model.specs.declared.call.Call.{Call}
-use Rattle.model.specs.declared.work.FreeList.{FreeList}
-use Rattle.model.specs.declared.work.Work.{Work}
-use Rattle.model.specs.Call.{position_of}
-use Rattle.model.specs.Group.{Contents}
-use Rattle.redis_core.specs.Sequencing.{Sequencing}
-use Rattle.standby_stream.specs.declared.opening.Opening.{Opening}
-use Rattle.standby_stream.specs.Delta.{delta_changes}
-use Rattle.stream_codec.specs.declared.message.TheConstants.{MAX_BODY_BYTES}
+use Rattle.world.specs.Words.{Call, changes_size, Contents, delta_changes, FreeList, MAX_BODY_BYTES, Opening, Past, play_all, position_of, RecallsEach, Remembers, Sequencing, Work}
 pub use Rattle.node_steps.specs.Node.{past_of}
-use Rattle.primary.specs.Recalling.{Past, RecallsEach, Remembers}
 
 -- The contents, at this position, remember each keyspace from their record's floor on, and the standby stands no lower.
 pub record RemembersFor (standby position : ℕ) (past : Past) (contents : Contents) (items : List Work) (aside : List FreeList) (s : Sequencing) : Type 0 where

@@ -1,18 +1,7 @@
 -- What the image of a node may hold in which a fence failed, or a call of which was cut.
-use Rattle.std.specs.Prelude.{◌≡◌, ◌⊎◌, ℕ, ◌≤◌, List, [], ◌∷◌, Contains}
-use Rattle.pmem.specs.Crash.{IsImage}
-use Rattle.pmem.specs.Device.{State}
-use Rattle.pmem.specs.Runs.{LeavesOnly}
-use Rattle.model.specs.declared.call.Call.{Call}
-use Rattle.model.specs.Call.{position_of}
-use Rattle.model.specs.Group.{Contents}
-use Rattle.model.specs.Image.{Image}
-use Rattle.model.specs.Standing.{Holder}
-use Rattle.wbl_engine.specs.Contents.{Keeps}
-use Rattle.wbl_engine.specs.Lawful.{AreLawful}
-use Rattle.machine.specs.declared.event.Cut.{Cut}
+use Rattle.std.specs.Prelude.{◌≡◌, ◌⊎◌, ℕ, ◌≤◌, Bool, false, not, ◌&&◌, ◌||◌, List, [], ◌∷◌, ◌++◌, Contains}
+use Rattle.world.specs.Words.{AreLawful, AsFollower, AsPrimary, At, Call, Contents, Crash, Cut, Event, Holder, Image, is_between, is_stopped, IsImage, Keeps, LeavesOnly, left_by, life_of, may_remain, Node, position_at, position_of, Remains, safe_position, State, torn, World}
 use Rattle.machine.specs.declared.event.Node.TheVariants as node
-use Rattle.machine.specs.Event.{AsFollower, At, AsPrimary, Remains, World, may_remain, safe_position}
 use Rattle.world.specs.Committing.{AreContentsAt, OpensAt, promoted_holder}
 use Rattle.world.specs.Recalling.{RecallsFor, past_of}
 
@@ -42,6 +31,29 @@ Remain holder calls position others device = (image : Image) → IsImage device.
 pub record MovesNear (holder : Holder) (calls : List Call) (from to : ℕ) (others : List Remains) (old new : State) : Type 0 where
   pub leaves : LeavesOnly old new (OpensNear holder calls from (At to ∷ others))
   pub failures : new.failures ≡ old.failures
+
+-- ---- in an event
+
+-- what a crash in this event may leave of this node, where it comes inside a call, besides the image from before the call
+abbrev pub cut_short : World → Event → Node → List Remains
+cut_short w (Crash node.Primary call k picks) node.Primary = left_by w node.Primary call
+cut_short w (Crash node.Standby call k picks) node.Standby = left_by w node.Standby call
+cut_short w event n = []
+
+-- the event is a crash inside a call
+abbrev pub is_cut : Event → Bool
+is_cut (Crash n call k picks) = not (is_between call)
+is_cut event = false
+
+-- the node stops between these two worlds
+abbrev pub stops_between : World → World → Node → Bool
+stops_between w w' n = not (is_stopped (life_of w n)) && is_stopped (life_of w' n)
+
+-- Each crash between these two states leaves an image that opens, over the list of the first world, as it may in that world, or as it may in the second one; or as a call that the event cut would have
+-- left it. And no fence failed, but perhaps in such a call; or the node stopped.
+pub record MovesAs (holder : Holder) (w : World) (event : Event) (w' : World) (n : Node) (old new : State) : Type 0 where
+  pub leaves : LeavesOnly old new (λ image. OpensNear holder w.primary.calls (position_at w n) (torn (life_of w n) ++ cut_short w event n) image ⊎ OpensNear holder w.primary.calls (position_at w' n) (torn (life_of w' n)) image)
+  pub failures : (is_cut event || stops_between w w' n) ≡ false → new.failures ≡ old.failures
 
 -- ---- what it holds
 

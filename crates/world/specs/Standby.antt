@@ -1,21 +1,8 @@
 -- How the standby, and what waits for it, refine the machine's.
 use Rattle.std.specs.Prelude.{◌≡◌, ℕ, Bool, true, false, List, Vec}
-use Rattle.std.specs.Global.{Global}
+use Rattle.world.specs.Words.{Ack, Acknowledgement, Applies, Apply, Call, Contents, cut_at, EntryNo, Follows, Frame, Global, Holder, keyspace_after, may_happen, records, Remains, Room, Sent, State, Table, World}
 use Rattle.std.specs.declared.collections.VecDeque.{VecDeque}
-use Rattle.pmem.specs.Device.{State}
-use Rattle.kv_types.specs.declared.place.EntryNo.{EntryNo}
-use Rattle.extent_heap.specs.Room.{Room}
-use Rattle.model.specs.declared.call.Call.{Call}
 use Rattle.model.specs.declared.record.Role.TheVariants as Role
-use Rattle.model.specs.Call.{keyspace_after, cut_at}
-use Rattle.model.specs.Group.{Contents}
-use Rattle.model.specs.Standing.{Holder}
-use Rattle.mv_keyspace.specs.Table.{Table, records}
-use Rattle.machine.specs.declared.event.Event.TheVariants.{Apply}
-use Rattle.machine.specs.Event.{Acknowledgement, Remains, World, Frame as Sent, Applies, may_happen}
-use Rattle.frames.specs.declared.ack.Ack.{Ack}
-use Rattle.frames.specs.declared.frame.Frame.{Frame}
-use Rattle.standby.specs.Following.{Follows}
 use Rattle.world.specs.Committing.{EngineStands, IsDown, Moves}
 use Rattle.world.specs.Condition.{has_crashed, has_stopped, runs}
 use Rattle.world.specs.declared.condition.Condition.{Condition}

@@ -1,27 +1,17 @@
 -- What one event does to a pair of nodes: one step of the machine, with both devices before it and after it, and all that it gave to anyone.
 use Rattle.std.specs.Prelude.{◌≡◌, ◌⊎◌, ℕ, ◌<◌, ◌≤◌, ◌&&◌, nat_eq, Contains, if◌then◌else◌, Bool, true, false, List, [], ◌∷◌, ◌++◌, take, slice_index_or, Vec, vec_len, vec_capacity, Result, Ok, Err, IfOk, IfErr}
-use Rattle.std.specs.Global.{Global}
-use Rattle.kv_types.specs.declared.refusal.Refusal.{Refusal}
-use Rattle.kv_types.specs.declared.refusal.Refusal.TheVariants.{Memory}
-use Rattle.model.specs.declared.call.Call.{Call}
-use Rattle.model.specs.Call.{MayReply, cut_at, position_of, state_after}
-use Rattle.model.specs.Standing.{Holder}
-use Rattle.machine.specs.declared.event.Event.{Event}
-use Rattle.machine.specs.declared.event.Event.TheVariants.{Apply, Crash, OpenLink, Promote, Send, Turn, Write}
+use Rattle.world.specs.Words.{AddsOne, Apply, AsFollower, AsPrimary, At, Call, Connection, connection_of, Crash, cut_at, Event, Global, Holder, IsReleased, may_remain, Memory, OpenLink, position_of, Promote, Refusal, released_in, released_of, Remains, safe_position, Send, torn, touches, Transcript, Turn, World, Write}
+use Rattle.model.specs.Call.{MayReply, state_after}
 use Rattle.machine.specs.declared.event.Node.TheVariants as node
-use Rattle.machine.specs.Event.{AsFollower, AsPrimary, At, Connection, Remains, World, connection_of, may_remain, safe_position, torn}
-use Rattle.machine.specs.Promise.{IsReleased, released_in}
-use Rattle.machine.specs.Row.{touches}
-use Rattle.connections.specs.Session.{AddsOne, TranscriptRefines, released_of}
-use Rattle.connections.specs.declared.transcript.Transcript.{Transcript}
-use Rattle.world.specs.Committing.{promoted_holder}
+use Rattle.connections.specs.Session.{TranscriptRefines}
+use Rattle.world.specs.Condition.{has_ended}
 pub use Rattle.world.specs.Effect.{AddsMessage}
-use Rattle.world.specs.Cutting.{Cuts}
 use Rattle.world.specs.Effect.{Effect}
+use Rattle.world.specs.Headline.{GoesOn, StandsIn}
 use Rattle.world.specs.Link.{AreAcksSent, AreFramesSent}
-use Rattle.world.specs.Remaining.{Remain}
+use Rattle.world.specs.Remaining.{Remain, stops_between}
 use Rattle.world.specs.Stopping.{Stops}
-use Rattle.world.specs.Pair.{Acts, Does, HasRoom, HasStandby, IsCut, IsPromotionCut, NodesRefine, Pair, Steps, Succeeds}
+use Rattle.world.specs.Pair.{Does, HasRoom, HasStandby, IsCut, IsPromotionCut, NodesRefine, Pair}
 
 -- ---- what an event leaves as it was
 
@@ -49,7 +39,12 @@ AcksBy OpenLink (Ok true) old new = AddsMessage old new
 AcksBy Apply (Ok true) old new = AddsMessage old new ⊎ (new ≡ old)
 AcksBy event result old new = new ≡ old
 
--- A device that the event does not touch is as it was, with all that it has gone through; and so are both, and all messages, where it was not enabled.
+-- A device that the event does not touch is as it was, with all that it has gone through; and so are both where it was not enabled.
+pub record Untouched (event : Event) (result : Result Bool Refusal) (old new : Pair) : Type 0 where
+  pub primary : (touches_primary event && has_begun result) ≡ false → new.primary.device ≡ old.primary.device
+  pub standby : (touches_standby event && has_begun result) ≡ false → new.standby.device ≡ old.standby.device
+
+-- And so are all messages, but for those that it makes.
 pub record Leaves (event : Event) (result : Result Bool Refusal) (old new : Pair) : Type 0 where
   pub primary : (touches_primary event && has_begun result) ≡ false → new.primary.device ≡ old.primary.device
   pub standby : (touches_standby event && has_begun result) ≡ false → new.standby.device ≡ old.standby.device
@@ -101,13 +96,13 @@ released_by w event did c = []
 
 -- ---- one event
 
--- An event happened to a pair that stood for this world: the machine's step, the world that the pair stands for then, and what the event did to both devices, whose
--- moments since then are those of that step; what was seen of the pair before it and after it; and what the event gave.
-pub record Happened (first second : Holder) (w : World) (event : Event) (did : Bool) (old new : Pair) : Type 0 where
-  pub steps : Steps first second w event did old new
-  pub before : Shows first second w old
-  pub after : Shows first second steps.world new
-  pub called : CallsBy w event did new.clients.transcript.calls.items
+-- An event happened to a pair that stood for this world: the machine's step, the world that the pair stands for then, and what the event did to both devices, by their numbers, whose
+-- moments since then are those of that step; what was seen of the pair before it and after it; and what the event gave. (A promotion in which a fence failed leaves the list as it is.)
+pub record Happened (first_lines second_lines : ℕ) (w : World) (event : Event) (did : Bool) (old new : Pair) (stood : StandsIn first_lines second_lines old w) : Type 0 where
+  pub goes : GoesOn first_lines second_lines old new event did w
+  pub before : Shows stood.serving stood.following w old
+  pub after : Shows goes.stands.serving goes.stands.following goes.world new
+  pub called : CallsBy w event did new.clients.transcript.calls.items ⊎ ((stops_between w goes.world node.Standby ≡ true) × (new.clients.transcript.calls.items ≡ w.primary.calls))
   pub released : (c : ℕ) → released_to new c ≡ released_to old c ++ released_by w event did c
 
 -- A turn was refused the room for its call, and there was none: the pair stands for the same worlds, and nothing that can be seen of it changed.
@@ -123,57 +118,20 @@ pub record LacksRoom (event : Event) (refusal : Refusal) (old new : Pair) : Type
 
 -- An event was cut: it was enabled in the world that the pair stood for, and has a cause.
 pub record WasCut (first second : Holder) (w : World) (event : Event) (refusal : Refusal) (old new : Pair) : Type 0 where
-  pub cut : IsCut first second event refusal old new w
+  pub cut : IsCut first second event refusal old new w ⊎ ((event ≡ Promote) × IsPromotionCut second refusal old new w)
   pub before : Shows first second w old
 
--- What an event that is no promotion did to a pair, of all worlds that it stood for: a step, or it was cut, or a turn lacked room. Where there was room for a call, none is
--- asked for.
-pub record Acted (old : Pair) (event : Event) (result : Result Bool Refusal) (new : Pair) : Type 0 where
-  pub happened : IfOk result (λ did. (first second : Holder) (w : World) → NodesRefine first second old w → Happened first second w event did old new)
+-- What an event did to a pair, of all worlds that it stood for: a step, or it was cut, or a turn lacked room. Where there was room for a call, none is asked for.
+pub record IsStep (old : Pair) (event : Event) (result : Result Bool Refusal) (new : Pair) : Type 0 where
+  pub happened : IfOk result (λ did. (first_lines second_lines : ℕ) (w : World) (stood : StandsIn first_lines second_lines old w) → Happened first_lines second_lines w event did old new stood)
   pub refused : IfErr result (λ refusal. ((first second : Holder) (w : World) → NodesRefine first second old w → WasCut first second w event refusal old new) ⊎ LacksRoom event refusal old new)
-  pub leaves : Leaves event result old new
+  -- while the standby is not promoted
+  pub untouched : has_ended new.lives.standby ≡ has_ended old.lives.standby → Untouched event result old new
+  pub frames : FramesBy event result old.wire.frames new.wire.frames
+  pub acknowledgements : AcksBy event result old.wire.arrivals.acknowledgements.items new.wire.arrivals.acknowledgements.items
+  -- what it does where it did its step, unless a fence failed in it as it was asked to
+  pub effect : Effect event result old new ⊎ Stops event old new
   pub room : HasRoom old → AddsOne old.clients.transcript.calls new.clients.transcript.calls
-
--- A standby was promoted, of a pair that stood for this world: what was seen of the pair before it and after it. The list is cut where the standby stood, and nothing was released.
-pub record Succeeded (first second : Holder) (w : World) (old new : Pair) : Type 0 where
-  pub succeeds : Succeeds second w old new
-  pub before : Shows first second w old
-  pub after : Shows (promoted_holder second) succeeds.former succeeds.world new
-  pub called : CallsBy w Promote true new.clients.transcript.calls.items
-  pub released : (c : ℕ) → released_to new c ≡ released_to old c
-
--- what a promotion did to a pair, of all worlds that it stood for, where it was begun: a step, or it was cut; and no message was made
-pub record WasPromoted (old : Pair) (event : Event) (result : Result Bool Refusal) (new : Pair) : Type 0 where
-  pub event_is : event ≡ Promote
-  pub succeeded : IfOk result (λ did. (did ≡ true) × ((first second : Holder) (w : World) → NodesRefine first second old w → Succeeded first second w old new))
-  pub refused : IfErr result (λ refusal. (first second : Holder) (w : World) → NodesRefine first second old w → IsPromotionCut second refusal old new w × Shows first second w old)
-  pub frames : new.wire.frames ≡ old.wire.frames
-  pub acknowledgements : new.wire.arrivals.acknowledgements.items ≡ old.wire.arrivals.acknowledgements.items
-  pub room : HasRoom old → AddsOne old.clients.transcript.calls new.clients.transcript.calls
-
--- What a crash inside a call, or of a node that had stopped, did to a pair, of all worlds that it stood for: the machine's step, what was seen of the pair before it and after it, and what the list is then. Nothing was
--- released.
-pub record WasInterrupted (old : Pair) (event : Event) (result : Result Bool Refusal) (new : Pair) : Type 0 where
-  pub cuts : Cuts old event result new
-  pub before : (first second : Holder) (w : World) → NodesRefine first second old w → Shows first second w old
-  pub after : (first second : Holder) (w : World) → NodesRefine first second new w → Shows first second w new
-  pub called : (first second : Holder) (w : World) → NodesRefine first second old w → CallsBy w event true new.clients.transcript.calls.items
-  pub released : (first second : Holder) (w : World) → NodesRefine first second old w → (c : ℕ) → released_to new c ≡ released_to old c
-
--- What a fence that failed did to a pair, as it was asked to: its node stopped. What was seen of the pair before it and after it.
-pub record WasStopped (old : Pair) (event : Event) (result : Result Bool Refusal) (new : Pair) : Type 0 where
-  pub stops : Stops old event result new
-  pub before : (first second : Holder) (w : World) → NodesRefine first second old w → Shows first second w old
-  pub after : (first second : Holder) (w : World) → NodesRefine first second new w → Shows first second w new
-
--- a crash inside a call came, or the node was in no such call
-abbrev pub CutsOrStays : Pair → Event → Bool → Pair → Type 0
-CutsOrStays old event true new = Cuts old event (Ok true) new
-CutsOrStays old event false new = Acts old event (Ok false) new × Leaves event (Ok false) old new
-
--- what an event did to a pair
-abbrev pub IsStep : Pair → Event → Result Bool Refusal → Pair → Type 0
-IsStep old event result new = Acted old event result new ⊎ WasPromoted old event result new ⊎ WasInterrupted old event result new ⊎ WasStopped old event result new
 
 -- ---- a turn
 

@@ -1,19 +1,12 @@
 -- A fence that fails where it was asked to: its node stops, and the run goes on.
-use Rattle.std.specs.Prelude.{◌≡◌, ◌⊎◌, ◌<◌, Bool, true, Result, Ok}
-use Rattle.pmem.specs.Device.{State}
-use Rattle.pmem.specs.Runs.{LeavesOnly}
-use Rattle.kv_types.specs.declared.refusal.Refusal.{Refusal}
-use Rattle.model.specs.Image.{Image}
-use Rattle.model.specs.Standing.{Holder}
-use Rattle.machine.specs.declared.event.Cut.{Cut}
+use Rattle.std.specs.Prelude.{◌≡◌, ◌⊎◌, ◌<◌, Bool, true, false}
+use Rattle.world.specs.Words.{Apply, ClearGap, Commit, Cut, Event, Free, Holder, Image, LeavesOnly, left_by, may_cut, Promote, Reopen, State, touches, World}
 use Rattle.machine.specs.declared.event.Cut.TheVariants as cut
-use Rattle.machine.specs.declared.event.Event.{Event}
-use Rattle.machine.specs.declared.event.Event.TheVariants.{Apply, ClearGap, Commit, Free, Promote, Reopen}
 use Rattle.machine.specs.declared.event.Node.TheVariants as node
-use Rattle.machine.specs.Event.{Step, World, is_stopped, left_by, may_cut}
-use Rattle.machine.specs.Row.{touches}
-use Rattle.world.specs.Pair.{HasStandby, NodesRefine, Pair}
-use Rattle.world.specs.Remaining.{KeepsOne, LeftBy, OpensNear}
+use Rattle.world.specs.Condition.{has_stopped}
+use Rattle.world.specs.declared.condition.Condition.{Condition}
+use Rattle.world.specs.Pair.{NodesRefine, Pair}
+use Rattle.world.specs.Remaining.{KeepsOne, LeftBy}
 
 -- the call of the event in which a fence may fail
 abbrev pub call_of : Event → Cut
@@ -57,34 +50,14 @@ pub record BreaksPromotion (old new : Pair) : Type 0 where
 
 -- ---- the event
 
--- The primary stopped: the machine's step, and the pair refines the world after it. The standby and its device are as they were.
-pub record StopsPrimary (first second : Holder) (w : World) (event : Event) (old new : Pair) : Type 0 where
-  pub touched : touches node.Primary event ≡ true
-  pub world : World
-  pub step : Step w event true world
-  pub stopped : is_stopped world.primary.life ≡ true
-  pub stands : NodesRefine first second new world
-  pub leaves : LeavesOnly old.primary.device new.primary.device (OpensNear first w.primary.calls w.primary.committer.position (left_by w node.Primary (call_of event)))
-  pub failures : old.primary.device.failures < new.primary.device.failures
-  pub same_standby : (new.standby ≡ old.standby) × (new.lives.standby ≡ old.lives.standby)
+-- its node went on until then, and a fence of its device failed
+pub record StopsNode (old new : Condition) (device device' : State) : Type 0 where
+  pub before : has_stopped old ≡ false
+  pub after : has_stopped new ≡ true
+  pub failures : device.failures < device'.failures
 
--- The standby did. The primary's device is as it was.
-pub record StopsStandby (first second : Holder) (w : World) (event : Event) (old new : Pair) : Type 0 where
-  pub touched : touches node.Standby event ≡ true
-  pub world : World
-  pub step : Step w event true world
-  pub stopped : is_stopped world.standby.life ≡ true
-  pub stands : NodesRefine first second new world
-  pub began : HasStandby old
-  pub whole : HasStandby new
-  pub leaves : LeavesOnly old.standby.device new.standby.device (OpensNear second w.primary.calls w.standby.position (left_by w node.Standby (call_of event)))
-  pub failures : old.standby.device.failures < new.standby.device.failures
-  pub same_primary : new.primary.device ≡ old.primary.device
-
--- A fence failed in an event, as it was asked to, and its node stopped: of all worlds that the pair stood for. No message was made, and nothing was called or released.
-pub record Stops (old : Pair) (event : Event) (result : Result Bool Refusal) (new : Pair) : Type 0 where
-  pub did : result ≡ Ok true
-  pub stopped : (first second : Holder) (w : World) → NodesRefine first second old w → StopsPrimary first second w event old new ⊎ StopsStandby first second w event old new
-  pub frames : new.wire.frames ≡ old.wire.frames
-  pub acknowledgements : new.wire.arrivals.acknowledgements.items ≡ old.wire.arrivals.acknowledgements.items
-  pub transcript : new.clients.transcript ≡ old.clients.transcript
+-- a fence failed of the device that the event touches, as it was asked to, and its node stopped
+abbrev pub Stops : Event → Pair → Pair → Type 0
+Stops event old new =
+    ((touches node.Primary event ≡ true) × StopsNode old.lives.primary new.lives.primary old.primary.device new.primary.device)
+    ⊎ ((touches node.Standby event ≡ true) × StopsNode old.lives.standby new.lives.standby old.standby.device new.standby.device)

@@ -6,18 +6,17 @@ ghost use Rattle.machine.specs.declared.event.Cut.TheVariants as cuts;
 ghost use Rattle.machine.specs.declared.event.Node.TheVariants as nodes;
 ghost use Rattle.world.specs.Pair.{Acts, HasWorld};
 ghost use Rattle.world.specs.Condition.{has_stopped};
-ghost use Rattle.world.specs.Step.{CutsOrStays, IsStep, Leaves};
+ghost use Rattle.world.specs.Step.{IsStep, Leaves};
 ghost use Rattle.world.specs.Stopping.{BreaksPrimary, BreaksStandby};
 ghost use Rattle.world.specs.declared.history.History.{History};
 
 use crate::condition::Condition;
 use crate::history::History;
+use crate::link_pipe::LinkPipe;
 use crate::pair::{Pair, Stepper};
 use kv_types::Refusal;
 use machine::Node;
-use model::Group;
 use mv_keyspace::Keyspace;
-use pipes::LocalPipe;
 use standby_stream::{Opening, Outgoing};
 use std::alloc::Global;
 use wbl_engine::Restarting;
@@ -66,7 +65,7 @@ impl<E: Restarting, K: Keyspace + Drop> Pair<E, K> {
     fn crash_stopped_primary(&mut self, history: &mut History, picks: &Vec<u64>)
         requires stopped { has_stopped self.old.primary_condition ≡ true }
         requires world { HasWorld (⟦<Pair<E, K> as Stepper>⟧.parts self.old history.old) }
-        ensures { (after : ℕ) → CutsOrStays (⟦<Pair<E, K> as Stepper>⟧.parts self.old history.old) (events.Crash nodes.Primary cuts.Between after picks.now) true (⟦<Pair<E, K> as Stepper>⟧.parts self.new history.new) }
+        ensures { (after : ℕ) → IsStep (⟦<Pair<E, K> as Stepper>⟧.parts self.old history.old) (events.Crash nodes.Primary cuts.Between after picks.now) (Ok true) (⟦<Pair<E, K> as Stepper>⟧.parts self.new history.new) }
     {
         self.primary.back.crash(picks.as_slice());
         let position = self.image_position();
@@ -105,7 +104,7 @@ impl<E: Restarting, K: Keyspace + Drop> Pair<E, K> {
     fn crash_stopped_standby(&mut self, history: &mut History, picks: &Vec<u64>)
         requires stopped { has_stopped self.old.standby_condition ≡ true }
         requires world { HasWorld (⟦<Pair<E, K> as Stepper>⟧.parts self.old history.old) }
-        ensures { (after : ℕ) → CutsOrStays (⟦<Pair<E, K> as Stepper>⟧.parts self.old history.old) (events.Crash nodes.Standby cuts.Between after picks.now) true (⟦<Pair<E, K> as Stepper>⟧.parts self.new history.new) }
+        ensures { (after : ℕ) → IsStep (⟦<Pair<E, K> as Stepper>⟧.parts self.old history.old) (events.Crash nodes.Standby cuts.Between after picks.now) (Ok true) (⟦<Pair<E, K> as Stepper>⟧.parts self.new history.new) }
     {
         self.standby.crash(picks.as_slice());
         self.go_by_image(history);
@@ -153,12 +152,12 @@ pub(crate) fn new_link(
     alloc: Global,
     epoch: u64,
     opening: Opening,
-) -> Result<(LocalPipe<Group>, Outgoing), Refusal>
+) -> Result<(LinkPipe, Outgoing), Refusal>
     ensures handed { IfOk result (λ made. made.0.items ≡ []) }
     ensures link { IfOk result (λ made. made.1.link ≡ new_stream epoch) }
     ensures opening { IfOk result (λ made. made.1.opening ≡ opening) }
     ensures cause { IfErr result (λ refusal. refusal ≡ Refusal.Memory) }
 {
-    let handed = LocalPipe::new(alloc)?;
+    let handed = LinkPipe::new(alloc)?;
     Ok((handed, Outgoing::new(alloc, epoch, opening)?))
 }

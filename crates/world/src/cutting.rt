@@ -1,5 +1,5 @@
 //! Crashes inside a call of a pair's nodes.
-ghost use Rattle.std.specs.Prelude.{◌≡◌, ◌≤◌, ◌↔◌, ◌&&◌, true, false};
+ghost use Rattle.std.specs.Prelude.{◌≡◌, ◌≤◌, ◌↔◌, ◌&&◌, true, false, Ok};
 ghost use Rattle.pmem.specs.Crash.{image_of};
 ghost use Rattle.model.specs.declared.image.TheConstants.{MAX_LINES, MIN_LINES};
 ghost use Rattle.model.specs.declared.record.Record.{Record as CommitRecord};
@@ -10,7 +10,7 @@ ghost use Rattle.machine.specs.declared.event.Node.TheVariants as nodes;
 ghost use Rattle.machine.specs.Event.{is_between};
 ghost use Rattle.world.specs.Cutting.{cut_of};
 ghost use Rattle.world.specs.Pair.{HasWorld};
-ghost use Rattle.world.specs.Step.{CutsOrStays};
+ghost use Rattle.world.specs.Step.{IsStep};
 ghost use Rattle.world.specs.declared.history.History.{History};
 
 use crate::condition::Condition;
@@ -34,7 +34,7 @@ impl<E: Restarting, K: Keyspace + Drop> Pair<E, K> {
     ) -> bool
         requires inside { is_between call ≡ false }
         requires world { HasWorld (⟦<Pair<E, K> as Stepper>⟧.parts self.old history.old) }
-        ensures { CutsOrStays (⟦<Pair<E, K> as Stepper>⟧.parts self.old history.old) (events.Crash node call k picks.now) result (⟦<Pair<E, K> as Stepper>⟧.parts self.new history.new) }
+        ensures { IsStep (⟦<Pair<E, K> as Stepper>⟧.parts self.old history.old) (events.Crash node call k picks.now) (Ok result) (⟦<Pair<E, K> as Stepper>⟧.parts self.new history.new) }
     {
         match node {
             Node::Primary => self.cut_primary(history, call, k, picks),
@@ -45,7 +45,7 @@ impl<E: Restarting, K: Keyspace + Drop> Pair<E, K> {
     fn cut_primary(&mut self, history: &mut History, call: Cut, k: u64, picks: &Vec<u64>) -> bool
         requires inside { is_between call ≡ false }
         requires world { HasWorld (⟦<Pair<E, K> as Stepper>⟧.parts self.old history.old) }
-        ensures { CutsOrStays (⟦<Pair<E, K> as Stepper>⟧.parts self.old history.old) (events.Crash nodes.Primary call k picks.now) result (⟦<Pair<E, K> as Stepper>⟧.parts self.new history.new) }
+        ensures { IsStep (⟦<Pair<E, K> as Stepper>⟧.parts self.old history.old) (events.Crash nodes.Primary call k picks.now) (Ok result) (⟦<Pair<E, K> as Stepper>⟧.parts self.new history.new) }
     {
         match call {
             Cut::Commit => self.cut_step(history, Due::Commit, k, picks),
@@ -61,7 +61,7 @@ impl<E: Restarting, K: Keyspace + Drop> Pair<E, K> {
     fn cut_standby(&mut self, history: &mut History, call: Cut, k: u64, picks: &Vec<u64>) -> bool
         requires inside { is_between call ≡ false }
         requires world { HasWorld (⟦<Pair<E, K> as Stepper>⟧.parts self.old history.old) }
-        ensures { CutsOrStays (⟦<Pair<E, K> as Stepper>⟧.parts self.old history.old) (events.Crash nodes.Standby call k picks.now) result (⟦<Pair<E, K> as Stepper>⟧.parts self.new history.new) }
+        ensures { IsStep (⟦<Pair<E, K> as Stepper>⟧.parts self.old history.old) (events.Crash nodes.Standby call k picks.now) (Ok result) (⟦<Pair<E, K> as Stepper>⟧.parts self.new history.new) }
     {
         match call {
             Cut::Apply => self.cut_frame(history, k, picks),
@@ -78,7 +78,7 @@ impl<E: Restarting, K: Keyspace + Drop> Pair<E, K> {
     fn cut_step(&mut self, history: &mut History, step: Due, k: u64, picks: &Vec<u64>) -> bool
         requires inside { is_between (cut_of step) ≡ false }
         requires world { HasWorld (⟦<Pair<E, K> as Stepper>⟧.parts self.old history.old) }
-        ensures { CutsOrStays (⟦<Pair<E, K> as Stepper>⟧.parts self.old history.old) (events.Crash nodes.Primary (cut_of step) k picks.now) result (⟦<Pair<E, K> as Stepper>⟧.parts self.new history.new) }
+        ensures { IsStep (⟦<Pair<E, K> as Stepper>⟧.parts self.old history.old) (events.Crash nodes.Primary (cut_of step) k picks.now) (Ok result) (⟦<Pair<E, K> as Stepper>⟧.parts self.new history.new) }
     {
         if !self.primary_condition.is_running() {
             return false;
@@ -101,7 +101,7 @@ impl<E: Restarting, K: Keyspace + Drop> Pair<E, K> {
     /// The primary crashes while its image is opened.
     fn cut_opening(&mut self, history: &mut History, k: u64, picks: &Vec<u64>) -> bool
         requires world { HasWorld (⟦<Pair<E, K> as Stepper>⟧.parts self.old history.old) }
-        ensures { CutsOrStays (⟦<Pair<E, K> as Stepper>⟧.parts self.old history.old) (events.Crash nodes.Primary cuts.Reopen k picks.now) result (⟦<Pair<E, K> as Stepper>⟧.parts self.new history.new) }
+        ensures { IsStep (⟦<Pair<E, K> as Stepper>⟧.parts self.old history.old) (events.Crash nodes.Primary cuts.Reopen k picks.now) (Ok result) (⟦<Pair<E, K> as Stepper>⟧.parts self.new history.new) }
     {
         if !self.primary_condition.has_crashed() {
             return false;

@@ -1,5 +1,5 @@
 //! Crashes inside a call of a pair's standby.
-ghost use Rattle.std.specs.Prelude.{◌≡◌, ◌↔◌, ℕ, [], List, map, IsTrue};
+ghost use Rattle.std.specs.Prelude.{◌≡◌, ◌↔◌, ℕ, [], List, map, IsTrue, Ok};
 ghost use Rattle.connections.specs.Session.{AddsOne, HasSeat, SessionsRefine, seats_of};
 ghost use Rattle.machine.specs.Event.{Connection as Machine, left};
 ghost use Rattle.machine.specs.declared.event.Cut.TheVariants as cuts;
@@ -10,7 +10,7 @@ ghost use Rattle.model.specs.declared.call.Call.{Call};
 ghost use Rattle.model.specs.declared.record.Role.TheVariants as roles;
 ghost use Rattle.world.specs.Pair.{HasWorld};
 ghost use Rattle.world.specs.Cutting.{GoesByImage};
-ghost use Rattle.world.specs.Step.{CutsOrStays};
+ghost use Rattle.world.specs.Step.{IsStep};
 ghost use Rattle.world.specs.declared.condition.Condition.TheVariants as conditions;
 ghost use Rattle.world.specs.declared.history.History.{History};
 
@@ -26,7 +26,7 @@ impl<E: Restarting, K: Keyspace + Drop> Pair<E, K> {
     /// The standby crashes while it takes the first frame that came.
     pub(crate) fn cut_frame(&mut self, history: &History, k: u64, picks: &Vec<u64>) -> bool
         requires world { HasWorld (⟦<Pair<E, K> as Stepper>⟧.parts self.old history.now) }
-        ensures { CutsOrStays (⟦<Pair<E, K> as Stepper>⟧.parts self.old history.now) (events.Crash nodes.Standby cuts.Apply k picks.now) result (⟦<Pair<E, K> as Stepper>⟧.parts self.new history.now) }
+        ensures { IsStep (⟦<Pair<E, K> as Stepper>⟧.parts self.old history.now) (events.Crash nodes.Standby cuts.Apply k picks.now) (Ok result) (⟦<Pair<E, K> as Stepper>⟧.parts self.new history.now) }
     {
         if !self.standby_condition.is_running() {
             return false;
@@ -50,7 +50,7 @@ impl<E: Restarting, K: Keyspace + Drop> Pair<E, K> {
         picks: &Vec<u64>,
     ) -> bool
         requires world { HasWorld (⟦<Pair<E, K> as Stepper>⟧.parts self.old history.now) }
-        ensures { CutsOrStays (⟦<Pair<E, K> as Stepper>⟧.parts self.old history.now) (events.Crash nodes.Standby cuts.Reopen k picks.now) result (⟦<Pair<E, K> as Stepper>⟧.parts self.new history.now) }
+        ensures { IsStep (⟦<Pair<E, K> as Stepper>⟧.parts self.old history.now) (events.Crash nodes.Standby cuts.Reopen k picks.now) (Ok result) (⟦<Pair<E, K> as Stepper>⟧.parts self.new history.now) }
     {
         if !self.standby_condition.has_crashed() {
             return false;
@@ -66,7 +66,7 @@ impl<E: Restarting, K: Keyspace + Drop> Pair<E, K> {
     /// that of a primary.
     pub(crate) fn cut_promotion(&mut self, history: &mut History, k: u64, picks: &Vec<u64>) -> bool
         requires world { HasWorld (⟦<Pair<E, K> as Stepper>⟧.parts self.old history.old) }
-        ensures { CutsOrStays (⟦<Pair<E, K> as Stepper>⟧.parts self.old history.old) (events.Crash nodes.Standby cuts.Promote k picks.now) result (⟦<Pair<E, K> as Stepper>⟧.parts self.new history.new) }
+        ensures { IsStep (⟦<Pair<E, K> as Stepper>⟧.parts self.old history.old) (events.Crash nodes.Standby cuts.Promote k picks.now) (Ok result) (⟦<Pair<E, K> as Stepper>⟧.parts self.new history.new) }
     {
         if !self.primary_condition.has_ended() {
             return false;

@@ -21,12 +21,13 @@ use crate::arrivals::Arrivals;
 use crate::condition::{AskedFences, Condition};
 use crate::crashing::new_link;
 use crate::history::History;
+use crate::link_pipe::LinkPipe;
 use crate::pair::{Pair, Stepper};
 use connections::Connections;
 use extent_heap::ExtentHeap;
 use failover::fence;
 use kv_types::Refusal;
-use model::{FIRST_EPOCH, Group, LAYOUT, Layout, Work};
+use model::{FIRST_EPOCH, LAYOUT, Layout, Work};
 use mv_keyspace::Keyspace;
 use pipes::LocalPipe;
 use placing::Rebuilt;
@@ -47,7 +48,7 @@ struct Between<K: Keyspace> {
     sessions: Connections,
     sequencer: Sequencer<K>,
     work: LocalPipe<Work>,
-    handed: LocalPipe<Group>,
+    handed: LinkPipe,
     outgoing: Outgoing,
     arrivals: Arrivals,
     /// The standby's.

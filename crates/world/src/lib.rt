@@ -11,6 +11,7 @@ mod failing;
 mod fencing;
 mod form;
 mod history;
+mod link_pipe;
 mod pair;
 mod playing;
 mod promoting;

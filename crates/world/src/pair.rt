@@ -13,15 +13,14 @@ ghost use Rattle.world.specs.declared.history.History.{History};
 use crate::arrivals::{Arrivals, acknowledge};
 use crate::condition::{AskedFences, Condition};
 use crate::history::History;
+use crate::link_pipe::LinkPipe;
 use crate::wire::{decode, pass};
 use bytes::Bytes;
 use connections::Connections;
 use group_commit::Due;
 use kv_types::{Refusal, Seen};
 use machine::{Cut, Event, Mark, Node};
-use model::Group;
 use mv_keyspace::Keyspace;
-use pipes::LocalPipe;
 use primary::{Primary, close};
 use standby::Standby;
 use standby_stream::Outgoing;
@@ -65,7 +64,7 @@ pub struct Pair<E: Durable, K: Keyspace> {
     /// What was freed, and the front has not been told.
     pub(crate) notices: VecDeque<Freed>,
     /// Groups that were committed and handed on, and are not sent.
-    pub(crate) handed: LocalPipe<Group>,
+    pub(crate) handed: LinkPipe,
     /// What the primary sends, as the server has it.
     pub(crate) outgoing: Outgoing,
     /// The remote mark.

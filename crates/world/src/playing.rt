@@ -3,8 +3,8 @@ ghost use Rattle.std.specs.Prelude.{◌≡◌, ◌≤◌, ◌∷◌, [], List, l
 ghost use Rattle.connections.specs.Session.{released_of};
 ghost use Rattle.model.specs.Standing.{Holder};
 ghost use Rattle.world.specs.declared.trace.EarlyEnd.TheVariants.{AtFormatting};
-ghost use Rattle.world.specs.Headline.{KeepsItsWord, PlaysOn, Plays, start};
-ghost use Rattle.world.specs.Pair.{NodesRefine, first_device, second_device};
+ghost use Rattle.world.specs.Headline.{KeepsItsWord, PlaysOn, Plays, devices_in, devices_of, given_by, start};
+ghost use Rattle.world.specs.Pair.{NodesRefine};
 
 use crate::history::History;
 use crate::pair::{Pair, Stepper};
@@ -40,8 +40,7 @@ pub fn run<P: Crashing>(
     requires { 2 ≤ vec_len devices }
     ensures kept { (primary standby : P) (others : List P) → devices.items ≡ primary ∷ standby ∷ others
         → (primary' : P) × (standby' : P) × (result.devices.items ≡ primary' ∷ standby' ∷ others)
-        × KeepsItsWord events.now result.ended result.done.items result.history.transcript.calls.items (released_of result.history.transcript) result.history.frames.items result.history.acknowledgements.items
-        (P.state primary) (P.state standby) (P.state primary') (P.state standby') }
+        × KeepsItsWord events.now result.ended (given_by result.done.items result.history) (devices_of (P.state primary) (P.state standby)) (devices_of (P.state primary') (P.state standby')) }
 {
     let mut devices = devices;
     let primary = devices.remove(0);
@@ -81,8 +80,7 @@ fn play_over<P: Crashing>(
     events: &[Event],
     hash_builder: RandomState,
 ) -> Played<P>
-    ensures { KeepsItsWord events.now result.ended result.done.items result.history.transcript.calls.items (released_of result.history.transcript) result.history.frames.items result.history.acknowledgements.items
-        (P.state primary) (P.state standby) (P.state result.primary) (P.state result.standby) }
+    ensures { KeepsItsWord events.now result.ended (given_by result.done.items result.history) (devices_of (P.state primary) (P.state standby)) (devices_of (P.state result.primary) (P.state result.standby)) }
 {
     // Room for what a run reports, so that none is asked for at its end.
     let done = match Vec::with_capacity(alloc, events.len()) {
@@ -129,9 +127,8 @@ fn play_on<P: Crashing, K: Keyspace + Drop>(
     requires room_calls { length events.now ≤ vec_capacity history.transcript.calls }
     requires stands { (first : Holder) × (second : Holder) × NodesRefine first second (⟦<Pair<WblEngine<P>, K> as Stepper>⟧.parts pair history) start }
     ensures { (first second : Holder) → NodesRefine first second (⟦<Pair<WblEngine<P>, K> as Stepper>⟧.parts pair history) start
-        → PlaysOn first second events.now result.ended result.done.items result.history.transcript.calls.items (released_of result.history.transcript) result.history.frames.items result.history.acknowledgements.items
-        (first_device (⟦<Pair<WblEngine<P>, K> as Stepper>⟧.parts pair history)) (second_device (⟦<Pair<WblEngine<P>, K> as Stepper>⟧.parts pair history))
-        (P.state result.primary) (P.state result.standby) }
+        → PlaysOn first second events.now result.ended (given_by result.done.items result.history)
+        (devices_in (⟦<Pair<WblEngine<P>, K> as Stepper>⟧.parts pair history)) (devices_of (P.state result.primary) (P.state result.standby)) }
 {
     let mut pair = pair;
     let mut history = history;

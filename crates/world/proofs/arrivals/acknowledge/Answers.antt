@@ -1,5 +1,5 @@
 use Rattle.std.proofs.Common.{ℕ, List, [], ◌∷◌, ◌++◌, Vec, Global, sym, subst}
-use Rattle.machine.specs.Event.{Acknowledgement, acknowledgement_of}
+use Rattle.world.specs.Words.{Acknowledgement, acknowledgement_of}
 use Rattle.world.specs.Link.{IsAckSent, AreAcksSent}
 use Rattle.world.proofs.FrameLemmas.{AreAcksSent-push}
 use Rattle.world.proofs.arrivals.acknowledge.Goals as goal

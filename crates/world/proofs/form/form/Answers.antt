@@ -1,8 +1,6 @@
 use Rattle.std.proofs.Common.{refl, ap, sym, subst, ◌∙◌}
-use Rattle.kv_types.specs.declared.refusal.Refusal.{Refusal}
-use Rattle.model.specs.declared.record.Role.TheVariants.{Primary, Standby}
-use Rattle.standby.proofs.NewLemmas.{HasAll}
-use Rattle.standby_stream.specs.Stream.{Stream}
+use Rattle.world.specs.Words.{Primary, Refusal, Standby, Stream}
+use Rattle.world.proofs.Words.{HasAll}
 use Rattle.world.specs.Cause.{UnformedBy}
 use Rattle.world.proofs.FormLemmas.{all-fresh, engine-new, formatted-size, formatting-none, new-own, pair-starts, standby-new, unformed-first, unformed-second}
 use Rattle.world.proofs.form.form.Goals as goal

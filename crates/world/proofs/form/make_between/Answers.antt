@@ -1,5 +1,5 @@
 use Rattle.std.proofs.Common.{ap, ◌∙◌}
-use Rattle.standby_stream.specs.declared.opening.Opening.{Opening}
+use Rattle.world.specs.Words.{Opening}
 use Rattle.world.proofs.form.make_between.Goals as goal
 
 pub returns-clause-sessions : goal.returns-clause-sessions

@@ -1,4 +1,4 @@
-use Rattle.std.proofs.lemmas.Result.{IfOk-weaker}
+use Rattle.world.proofs.Words.{IfOk-weaker}
 use Rattle.placing.proofs.BesideLemmas.{beside-empty}
 use Rattle.world.proofs.FormLemmas.{all-fresh, out-fresh, underlies-new}
 use Rattle.world.proofs.form.new_sequencer.Goals as goal

@@ -1,12 +1,11 @@
 use Rattle.std.proofs.Common.{rules, ◌≡◌, ◌≤◌, List, Some, slice_get, [], ◌∷◌, ◌++◌, length, take, sym, ap, subst, ◌∙◌, arith}
 use Rattle.std.proofs.lemmas.List.{take_more, take_all}
-use Rattle.std.proofs.lemmas.Option.{slice_get-get_or}
-use Rattle.machine.specs.declared.event.Event.{Event}
-use Rattle.model.specs.Standing.{Holder}
+use Rattle.world.specs.Words.{Event, Holder}
+use Rattle.world.proofs.Words.{slice_get-get_or}
 use Rattle.world.specs.Headline.{start, StandsAfter, IsCutAfter}
 use Rattle.world.specs.Pair.{HasRoom, Pair, NodesRefine}
 use Rattle.world.proofs.AroundLemmas.{around-stands}
-use Rattle.world.proofs.ReachLemmas.{adds-one, reaches-start, reaches-world, reaches-next, reaches-cut}
+use Rattle.world.proofs.ReachLemmas.{reaches-start, reaches-world, reaches-next, reaches-cut}
 use Rattle.world.proofs.playing.play.Goals as goal
 
 -- at the start there is no call
@@ -43,7 +42,7 @@ returns-in-Err g c = λ first second stands.
 pub loop-event-preserved : goal.loop-event-preserved
 loop-event-preserved g c =
     let room : HasRoom (g.S.Stepper.parts c.loop-event.stepper c.loop-event.history) = record { room = omega (arith, c.loop-event.invariant.few, c.loop-event.invariant.room_calls, c.loop-event-test.true) } in
-    let adds = adds-one {new = g.S.Stepper.parts c.step.new.self c.step.new.history} c.in-Ok.ensures room in
+    let adds = c.in-Ok.ensures.room room in
     record {
       count = omega (arith, c.push_reserved.ensures.len, c.loop-event.invariant.count);
       room = omega (arith, c.push_reserved.ensures.capacity, c.loop-event.invariant.room);

@@ -1,6 +1,5 @@
 use Rattle.std.proofs.Common.{◌≡◌, ◌≤◌, take, length, vec_len}
-use Rattle.std.specs.Vec.{vec_capacity}
-use Rattle.model.specs.Standing.{Holder}
+use Rattle.world.specs.Words.{Holder, vec_capacity}
 use Rattle.world.specs.Pair.{NodesRefine}
 use Rattle.world.specs.Headline.{start, StandsAfter}
 use Rattle.world.proofs.playing.play.Given as goal

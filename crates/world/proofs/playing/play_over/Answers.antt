@@ -1,6 +1,5 @@
 use Rattle.std.proofs.Common.{ap, subst, sym}
-use Rattle.pmem.specs.Device.{State}
-use Rattle.model.specs.declared.record.Role.TheVariants.{Primary, Standby}
+use Rattle.world.specs.Words.{Primary, Standby, State}
 use Rattle.world.specs.Cause.{UnformedBy}
 use Rattle.world.specs.Committing.{FormattingOnly}
 use Rattle.world.proofs.FormLemmas.{formatting-none}
@@ -11,7 +10,7 @@ pub returns-in-Err : goal.returns-in-Err
 returns-in-Err g c =
     let state = g.P.Pmem.state in
     let nothing = c.nothing.ensures in
-    keeps-unplayed _ _ _ _ _ _ _ _ _ _ _ _ nothing.ended nothing.none.0 nothing.none.1 nothing.none.2 nothing.none_sent.0 nothing.none_sent.1
+    keeps-unplayed _ _ _ c.nothing.result.done.items c.nothing.result.history _ _ nothing.ended nothing.none.0 (nothing.none.1, nothing.none.2) nothing.none_sent
     (subst (FormattingOnly Primary (state c.args.primary)) (ap state (sym nothing.devices.0)) (formatting-none Primary (state c.args.primary)))
     (subst (FormattingOnly Standby (state c.args.standby)) (ap state (sym nothing.devices.1)) (formatting-none Standby (state c.args.standby)))
     (ap state nothing.devices.0, ap state nothing.devices.1)
@@ -19,14 +18,14 @@ returns-in-Err g c =
 pub returns-in-Ok-open : goal.returns-in-Ok-open
 returns-in-Ok-open g c =
     let formatting = c.in-Ok-open.ensures.moments in
-    keeps-played _ _ _ _ _ _ _ _ _ _ _ _ _ formatting.0 formatting.1 (c.play_on.ensures _ _ c.in-Ok-open.ensures.stands)
+    keeps-played _ _ _ _ _ _ formatting.0 formatting.1 (c.play_on.ensures _ _ c.in-Ok-open.ensures.stands)
 
 pub returns-in-Err-open : goal.returns-in-Err-open
 returns-in-Err-open g c =
     let state = g.P.Pmem.state in
     let nothing = c.nothing-in-Err-open.ensures in
     let formatting = c.in-Err-open.ensures.moments in
-    keeps-unplayed _ _ _ _ _ _ _ _ _ _ _ _ nothing.ended nothing.none.0 nothing.none.1 nothing.none.2 nothing.none_sent.0 nothing.none_sent.1
+    keeps-unplayed _ _ _ c.nothing-in-Err-open.result.done.items c.nothing-in-Err-open.result.history _ _ nothing.ended nothing.none.0 (nothing.none.1, nothing.none.2) nothing.none_sent
     (subst (FormattingOnly Primary (state c.args.primary)) (ap state (sym nothing.devices.0)) formatting.0)
     (subst (FormattingOnly Standby (state c.args.standby)) (ap state (sym nothing.devices.1)) formatting.1)
     (subst (λ (p : State). UnformedBy c.in-Err-open.refusal (state c.args.primary) (state c.args.standby) p (state c.nothing-in-Err-open.result.standby)) (ap state (sym nothing.devices.0))

@@ -1,10 +1,7 @@
 use Rattle.std.proofs.Common.{◌≡◌, Option, Result, IfOk, IfErr, inl, inr, sym, ap, subst, ◌∙◌, arith}
 use Rattle.std.specs.Option.{ok_or}
-use Rattle.std.proofs.lemmas.Result.{err_from_is_err_and}
-use Rattle.kv_types.specs.declared.refusal.Refusal.{Refusal}
-use Rattle.kv_types.specs.declared.refusal.Refusal.TheVariants.{Memory, FrameFault}
-use Rattle.stream_codec.specs.declared.message.Message.{Message}
-use Rattle.stream_codec.specs.Message.{sent_of}
+use Rattle.world.specs.Words.{FrameFault, Memory, Message, Refusal, sent_of}
+use Rattle.world.proofs.Words.{err_from_is_err_and}
 use Rattle.world.proofs.WireLemmas.{nothing_yet, reads_on, read_whole, no_fault, only_one, nothing_left, cut_at}
 use Rattle.world.proofs.wire.decode.Goals as goal
 

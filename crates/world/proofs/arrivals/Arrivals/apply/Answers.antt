@@ -1,23 +1,11 @@
 use Rattle.std.proofs.Common.{◌≡◌, inl, inr, ℕ, Vec, Global, ◌++◌, [], ◌∷◌, List, Option, Result, Ok, Err, refl, sym, ap, subst, ◌∙◌, append-nil, arith, true≢false}
-use Rattle.model.specs.Standing.{Holder}
-use Rattle.pmem.specs.Runs.{LeavesOnly}
-use Rattle.std.proofs.lemmas.Bool.{eqb-false}
-use Rattle.std.proofs.lemmas.Result.{err_from_is_err_and}
-use Rattle.std.specs.Option.{option_to_list}
-use Rattle.kv_types.specs.declared.refusal.Refusal.{Refusal}
-use Rattle.kv_types.specs.declared.refusal.Refusal.TheVariants.{Memory}
-use Rattle.model.specs.Call.{is_nonempty}
-use Rattle.machine.specs.declared.event.Event.TheVariants.{Apply}
-use Rattle.machine.specs.Event.{At, World, Frame as Sent, Acknowledgement, without_first}
-use Rattle.machine.specs.Sound.{Sound}
-use Rattle.frames.specs.declared.ack.Ack.{Ack}
-use Rattle.frames.specs.declared.frame.Frame.{Frame}
+use Rattle.world.specs.Words.{Ack, Acknowledgement, Apply, At, Frame, Holder, is_nonempty, LeavesOnly, Memory, option_to_list, Refusal, Sent, Sound, TakesFrame, without_first, World}
+use Rattle.world.proofs.Words.{eqb-false, err_from_is_err_and}
 use Rattle.standby.specs.declared.standby.Standby.{Standby}
-use Rattle.standby.specs.Taking.{TakesFrame}
 use Rattle.world.specs.Cause.{EndsBy}
 use Rattle.world.specs.Following.{HasFollower, next_from, next_standby}
 use Rattle.world.specs.Remaining.{KeepsOne}
-use Rattle.world.specs.Standby.{Arrived, Node, ArrivalsRefine, StandbyStands, arrived_with, told_by}
+use Rattle.world.specs.Standby.{Arrived, Node, ArrivalsRefine, StandbyStands, arrived_with, node_at, told_by}
 use Rattle.world.proofs.StandbyLemmas.{takes_ok, takes_refused, refused-full, frame-ends, frame-keeps, frame-lines, StandbyStands-still}
 use Rattle.world.proofs.EngineLemmas.{Opens-engine, rests-same}
 use Rattle.world.specs.Link.{AreAcksSent}
@@ -29,15 +17,8 @@ use Rattle.world.proofs.arrivals.Arrivals.apply.Goals as goal
 use Rattle.world.proofs.arrivals.Arrivals.apply.Goals.{After-on_frame}
 
 abbrev node : (g : Over) → Standby g.row.E.Denot g.row.K.Denot g.row.E-Device.Denot → Node
-node g standby = record {
-  device = g.E.Durable.device standby.engine;
-  contents = g.E.Durable.contents standby.engine;
-  is_faulted = g.E.Durable.is_faulted standby.engine;
-  table = g.K.Keyspace.table standby.keyspace;
-  room = standby.heap;
-  ended = standby.ended.items;
-  epoch = (g.E.Durable.contents standby.engine).current.epoch;
-}
+node g standby =
+    node_at (g.E.Durable.device standby.engine) (g.E.Durable.contents standby.engine) (g.E.Durable.is_faulted standby.engine) (g.K.Keyspace.table standby.keyspace) standby.heap standby.ended.items
 
 told : (g : Over) (c : After-on_frame g) (result : Result Ack Refusal) → c.on_frame.result ≡ result
     → TakesFrame g.E.Durable.device g.E.Durable.contents g.E.Durable.is_faulted g.K.Keyspace.table c.unwrap-frame.result c.args.standby.now result c.on_frame.new.self

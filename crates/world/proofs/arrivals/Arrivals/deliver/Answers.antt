@@ -1,11 +1,7 @@
 use Rattle.std.proofs.Common.{◌≡◌, ℕ, Bool, Result, IfErr, refl, sym, ap, subst, ◌∙◌}
-use Rattle.std.proofs.lemmas.Bool.{ltb-true}
-use Rattle.std.proofs.lemmas.Result.{err_from_is_err_and}
+use Rattle.world.specs.Words.{Memory, Refusal, sent_of, sent_of_frame, World}
+use Rattle.world.proofs.Words.{err_from_is_err_and, ltb-true}
 use Rattle.std.specs.Prelude.{length}
-use Rattle.kv_types.specs.declared.refusal.Refusal.{Refusal}
-use Rattle.kv_types.specs.declared.refusal.Refusal.TheVariants.{Memory}
-use Rattle.machine.specs.Event.{World}
-use Rattle.stream_codec.specs.Message.{sent_of, sent_of_frame}
 use Rattle.world.specs.Link.{AreFramesSent}
 use Rattle.world.specs.Standby.{arrived_with}
 use Rattle.world.proofs.FrameLemmas.{found-there, ack_is_no_frame}

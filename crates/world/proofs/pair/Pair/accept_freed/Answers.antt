@@ -1,5 +1,5 @@
 use Rattle.std.proofs.Common.{arith, refl}
-use Rattle.world.proofs.PairAccepting.{accept-does, accept-none, no_notices}
+use Rattle.world.proofs.PairClosing.{accept-does, accept-none, no_notices}
 use Rattle.world.proofs.pair.Pair.accept_freed.Goals as goal
 
 pub returns-in_default-clause-does : goal.returns-in_default-clause-does

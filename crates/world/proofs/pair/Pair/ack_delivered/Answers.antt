@@ -1,9 +1,7 @@
 use Rattle.std.proofs.Common.{ℕ, ◌≤◌, ◌<◌, List, length, Err, Vec, Global, refl, sym, ap, subst, ◌∙◌}
-use Rattle.std.proofs.lemmas.Bool.{ltb-true}
-use Rattle.std.proofs.lemmas.Result.{err_from_is_err_and}
-use Rattle.kv_types.specs.declared.refusal.Refusal.TheVariants.{FrameFault}
+use Rattle.world.specs.Words.{Acknowledged, FrameFault, sent_of}
+use Rattle.world.proofs.Words.{err_from_is_err_and, ltb-true}
 use Rattle.standby_stream.specs.declared.outgoing.Outgoing.{Outgoing}
-use Rattle.stream_codec.specs.Message.{Acknowledged, sent_of}
 use Rattle.world.proofs.FrameLemmas.{found-there, frame_is_no_ack}
 use Rattle.world.proofs.PairLink.{ack-does, ack-cut, no-ack-does}
 use Rattle.world.proofs.pair.Pair.ack_delivered.Goals as goal

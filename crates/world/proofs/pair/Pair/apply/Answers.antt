@@ -2,8 +2,8 @@ use Rattle.std.proofs.Common.{refl}
 use Rattle.world.specs.Committing.{next_standby}
 use Rattle.world.specs.Standby.{arrived_with, node_at}
 use Rattle.world.proofs.KeptLemmas.{near-kept}
-use Rattle.world.proofs.LeavesLemmas.{not-begun}
-use Rattle.world.proofs.PairBreaksStandby.{apply-breaks}
+use Rattle.world.proofs.DeviceLemmas.{not-begun}
+use Rattle.world.proofs.PairStoppingStandby.{apply-breaks}
 use Rattle.world.proofs.PairStandby.{apply-acts, follower}
 use Rattle.world.proofs.pair.Pair.apply.Goals as goal
 

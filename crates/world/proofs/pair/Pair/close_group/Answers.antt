@@ -1,5 +1,5 @@
 use Rattle.std.proofs.Common.{refl}
-use Rattle.world.proofs.LeavesLemmas.{on-did}
+use Rattle.world.proofs.DeviceLemmas.{on-did}
 use Rattle.world.proofs.PairClosing.{close-does}
 use Rattle.world.proofs.pair.Pair.close_group.Goals as goal
 

@@ -1,6 +1,5 @@
-use Rattle.std.proofs.Common.{refl, sym, ◌∙◌}
+use Rattle.std.proofs.Common.{sym, ◌∙◌}
 use Rattle.world.proofs.PairLives.{between}
-use Rattle.world.proofs.StepLemmas.{interrupted-is}
 use Rattle.world.proofs.pair.Pair.crash_in.Goals as goal
 
 pub returns-then-is_between : goal.returns-then-is_between
@@ -8,6 +7,3 @@ returns-then-is_between g c = rw (between c.args.call (sym c.is_between.ensures 
 
 pub cut-requires-clause-inside : goal.cut-requires-clause-inside
 cut-requires-clause-inside g c = sym c.is_between.ensures ∙ c.if-is_between.false
-
-pub returns : goal.returns
-returns g c = interrupted-is refl c.cut.ensures

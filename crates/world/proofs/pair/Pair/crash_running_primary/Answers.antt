@@ -1,6 +1,6 @@
-use Rattle.std.proofs.Common.{ℕ, List, ap, refl, ◌∙◌, sym}
-use Rattle.pmem.specs.Crash.{picked}
+use Rattle.std.proofs.Common.{refl, ◌∙◌, sym}
 use Rattle.world.proofs.PairCrash.{primary-crashed, primary-crashes}
+use Rattle.world.proofs.KeptLemmas.{leaves-picked}
 use Rattle.world.proofs.pair.Pair.crash_running_primary.Goals as goal
 
 pub returns-then-not-is_running-clause-does : goal.returns-then-not-is_running-clause-does
@@ -29,9 +29,5 @@ returns-clause-leaves g c = λ after.
       standby = λ idle. refl;
       frames = refl;
       acknowledgements = refl;
-      effect = record {
-        settled = crashed.settled;
-        image = crashed.image;
-        picked_are = λ fed word. crashed.picked fed word ∙ ap (λ (picks : List ℕ). picked (g.E.Durable.device c.args.self.now.primary.back.committer.engine).words picks word) c.as_slice.ensures.value;
-      };
+      effect = (leaves-picked _ c.as_slice.ensures.value crashed.settled crashed.image crashed.picked, crashed.failures);
     }

@@ -1,7 +1,10 @@
-use Rattle.std.proofs.Common.{ℕ, List, ap, refl, ◌∙◌, sym}
-use Rattle.pmem.specs.Crash.{picked}
-use Rattle.world.specs.Standby.{arrived_with}
+use Rattle.std.proofs.Common.{ap, if◌then◌else◌, refl, ◌∙◌, sym, subst}
+use Rattle.world.specs.Words.{Between, State}
+use Rattle.world.specs.Effect.{LeavesOf}
+use Rattle.world.proofs.LivesLemmas.{not-over}
+use Rattle.world.specs.Standby.{arrived_with, node_at}
 use Rattle.world.proofs.PairCrash.{standby-crashed, standby-crashes}
+use Rattle.world.proofs.KeptLemmas.{leaves-picked}
 use Rattle.world.proofs.pair.Pair.crash_running_standby.Goals as goal
 
 pub returns-then-not-is_running-clause-does : goal.returns-then-not-is_running-clause-does
@@ -13,15 +16,7 @@ returns-clause-does g c = λ history after.
     let standby = c.crash.new.self in
     let crashed = c.crash.ensures in
     standby-crashes _ (arrived_with c.crash-2.new.self history.acknowledgements)
-    (record {
-      device = E.device standby.engine;
-      contents = E.contents standby.engine;
-      is_faulted = E.is_faulted standby.engine;
-      table = g.K.Keyspace.table standby.keyspace;
-      room = standby.heap;
-      ended = standby.ended.items;
-      epoch = (E.contents standby.engine).current.epoch;
-    })
+    (node_at (E.device standby.engine) (E.contents standby.engine) (E.is_faulted standby.engine) (g.K.Keyspace.table standby.keyspace) standby.heap standby.ended.items)
     after c.args.picks.now (sym c.is_running.ensures ∙ c.if-not-is_running.false)
     (record {
       sized = g.met.E.Durable.sized c.args.self.now.standby.engine;
@@ -35,15 +30,17 @@ returns-clause-does g c = λ history after.
 
 pub returns-clause-leaves : goal.returns-clause-leaves
 returns-clause-leaves g c = λ history after.
+    let device = g.E.Durable.device in
+    let was = device c.args.self.now.standby.engine in
+    let last = device c.crash.new.self.engine in
     let crashed = c.crash.ensures in
+    let whole = not-over c.args.self.now.standby_condition (sym c.is_running.ensures ∙ c.if-not-is_running.false) in
+    let left : LeavesOf Between after c.args.picks.now.items was last =
+    (leaves-picked _ c.as_slice.ensures.value crashed.settled crashed.image crashed.picked, crashed.failures) in
     record {
       primary = λ idle. refl;
       standby = λ idle. cc;
       frames = refl;
       acknowledgements = refl;
-      effect = record {
-        settled = crashed.settled;
-        image = crashed.image;
-        picked_are = λ fed word. crashed.picked fed word ∙ ap (λ (picks : List ℕ). picked (g.E.Durable.device c.args.self.now.standby.engine).words picks word) c.as_slice.ensures.value;
-      };
+      effect = subst (λ (d : State). LeavesOf Between after c.args.picks.now.items d last) (sym (ap (λ b. if b then device c.args.self.now.primary.back.committer.engine else was) whole)) left;
     }

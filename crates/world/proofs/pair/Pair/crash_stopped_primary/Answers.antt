@@ -1,9 +1,7 @@
-use Rattle.std.proofs.Common.{ℕ, List, map, ap, subst, ◌∙◌}
-use Rattle.pmem.specs.Crash.{picked}
-use Rattle.model.specs.Call.{cut_at}
-use Rattle.machine.specs.Event.{left}
-use Rattle.connections.specs.Session.{SessionsRefine}
+use Rattle.std.proofs.Common.{map, subst}
+use Rattle.world.specs.Words.{cut_at, left, SessionsRefine}
 use Rattle.world.proofs.PairStopped.{stopped-cut}
+use Rattle.world.proofs.KeptLemmas.{leaves-picked}
 use Rattle.world.proofs.pair.Pair.crash_stopped_primary.Goals as goal
 
 pub returns : goal.returns
@@ -23,9 +21,5 @@ returns g c = λ after.
     (λ r many few undamaged machines list stand.
     subst (λ n. SessionsRefine c.crash-2.new.self c.crash-2.new.transcript (map left machines) (cut_at list n)) (c.image_position-position.ensures r many few undamaged) (ended.goes machines list stand))
     ended.unseated
-    (record {
-      settled = crashed.settled;
-      image = crashed.image;
-      picked_are = λ fed word. crashed.picked fed word ∙ ap (λ (picks : List ℕ). picked (E.device c.args.self.now.primary.back.committer.engine).words picks word) c.as_slice.ensures.value;
-    })
+    (leaves-picked _ c.as_slice.ensures.value crashed.settled crashed.image crashed.picked)
     ended.calls

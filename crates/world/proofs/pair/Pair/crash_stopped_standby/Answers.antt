@@ -1,9 +1,8 @@
-use Rattle.std.proofs.Common.{ℕ, List, ap, ◌∙◌}
-use Rattle.pmem.specs.Crash.{picked}
-use Rattle.machine.specs.declared.event.Cut.TheVariants.{Between}
+use Rattle.world.specs.Words.{Between}
 use Rattle.world.specs.Standby.{Node, node_at}
-use Rattle.world.proofs.PairCrashStopped.{stopped-falls}
+use Rattle.world.proofs.PairStopped.{stopped-falls}
 use Rattle.world.proofs.PairFallen.{goes-by-image}
+use Rattle.world.proofs.KeptLemmas.{leaves-picked}
 use Rattle.world.proofs.pair.Pair.crash_stopped_standby.Goals as goal
 
 pub returns : goal.returns
@@ -15,9 +14,5 @@ returns g c = λ after.
     let new_node : Node = node_at (E.device last.engine) (E.contents last.engine) (E.is_faulted last.engine) (g.K.Keyspace.table last.keyspace) last.heap last.ended.items in
     goes-by-image _ new_node Between after c.args.picks.now _
     (stopped-falls _ (E.device last.engine) after c.args.picks.now c.requires.stopped
-    (record {
-      settled = crashed.settled;
-      image = crashed.image;
-      picked_are = λ fed word. crashed.picked fed word ∙ ap (λ (picks : List ℕ). picked (E.device was.engine).words picks word) c.as_slice.ensures.value;
-    }) crashed.lines crashed.failures crashed.moments)
+    (leaves-picked _ c.as_slice.ensures.value crashed.settled crashed.image crashed.picked) crashed.lines crashed.failures crashed.moments)
     c.go_by_image.ensures

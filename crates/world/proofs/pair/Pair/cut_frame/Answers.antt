@@ -1,32 +1,24 @@
-use Rattle.std.proofs.Common.{◌≡◌, ◌++◌, ◌∷◌, [], ℕ, List, Option, refl, sym, ap, subst, ◌∙◌, arith}
-use Rattle.std.proofs.lemmas.Bool.{eqb-false, eqb-true}
-use Rattle.std.specs.Option.{option_to_list}
-use Rattle.pmem.specs.Crash.{picked, words_to_crash}
-use Rattle.pmem.specs.Runs.{LeavesOnly}
-use Rattle.frames.specs.declared.frame.Frame.{Frame}
-use Rattle.machine.specs.declared.event.Cut.TheVariants.{Apply}
-use Rattle.machine.specs.declared.event.Event.TheVariants.{Crash}
-use Rattle.machine.specs.declared.event.Node.TheVariants.{Standby}
-use Rattle.machine.specs.Event.{At, Frame as Sent}
+use Rattle.std.proofs.Common.{◌≡◌, ◌++◌, ◌∷◌, [], List, Option, refl, sym, ap, subst, ◌∙◌, arith}
+use Rattle.world.specs.Words.{At, Frame, LeavesOnly, option_to_list, Sent}
+use Rattle.world.proofs.Words.{eqb-false, eqb-true}
 use Rattle.world.specs.Following.{next_from}
 use Rattle.world.specs.Standby.{Node, arrived_with, node_at}
 use Rattle.world.proofs.AroundLemmas.{around-stands}
 use Rattle.world.proofs.ArrivalLemmas.{first-frame}
 use Rattle.world.specs.Remaining.{KeepsOne}
-use Rattle.world.proofs.KeptLemmas.{CrashedIn}
+use Rattle.world.proofs.KeptLemmas.{CrashedIn, crashed-in}
 use Rattle.world.proofs.PairCutStandby.{frame-cuts, frame-idle, frame-none}
 use Rattle.world.proofs.PairStandby.{follower}
 use Rattle.world.proofs.StandbyLemmas.{StandbyStands-kept, frame-asked, frame-keeps, frame-lines}
-use Rattle.world.proofs.StepLemmas.{leaves-still}
 use Rattle.world.proofs.pair.Pair.cut_frame.Goals as goal
 
 pub returns-then-not-is_running : goal.returns-then-not-is_running
-returns-then-not-is_running g c = (frame-idle _ c.args.k c.args.picks.now (sym c.is_running.ensures ∙ c.if-not-is_running.true), leaves-still (Crash Standby Apply c.args.k c.args.picks.now) _)
+returns-then-not-is_running g c = frame-idle _ c.args.k c.args.picks.now (sym c.is_running.ensures ∙ c.if-not-is_running.true)
 
 pub returns-then-is_empty : goal.returns-then-is_empty
 returns-then-is_empty g c =
     let none = eqb-true _ 0 (sym c.is_empty.ensures ∙ c.if-is_empty.true) in
-    (frame-none _ c.args.k c.args.picks.now (omega (arith, none, c.args.self.now.arrivals.delivered.ok.0)), leaves-still (Crash Standby Apply c.args.k c.args.picks.now) _)
+    frame-none _ c.args.k c.args.picks.now (omega (arith, none, c.args.self.now.arrivals.delivered.ok.0))
 
 pub on_frame-requires : goal.on_frame-requires
 on_frame-requires g c =
@@ -59,16 +51,7 @@ returns g c =
     let stood_first : c.args.self.now.arrivals.delivered.items ≡ frame ∷ c.pop_front.new.self.items =
     c.pop_front.ensures.items ∙ ap (λ (taken : Option Frame). option_to_list taken ++ c.pop_front.new.self.items) c.unwrap-frame.ensures in
     let is : CrashedIn c.args.k c.args.picks.now.items (E.device was.engine) (E.device kept.engine) (E.device mid.engine) (E.device last.engine) =
-    record {
-      keeps = moved.keeps;
-      asked = frame-asked E.device E.contents E.is_faulted K.table frame kept mid c.on_frame.result c.on_frame.ensures;
-      settled = crashed.settled;
-      left = crashed.left;
-      picked_are = λ fed word.
-          crashed.picked fed word ∙ ap (λ (picks : List ℕ). picked (words_to_crash (E.device mid.engine) (E.device mid.engine).kept) picks word) c.as_slice.ensures.value;
-      lines_are = crashed.lines;
-      moments = crashed.moments;
-    } in
+    crashed-in _ c.as_slice.ensures.value moved.keeps (frame-asked E.device E.contents E.is_faulted K.table frame kept mid c.on_frame.result c.on_frame.ensures) crashed.settled crashed.left crashed.picked crashed.lines crashed.moments in
     let lines = sym (sized mid.engine) ∙ frame-lines E.device E.contents E.is_faulted K.table frame kept mid c.on_frame.result c.on_frame.ensures ∙ ap (λ contents. contents.lines) moved.contents ∙ sized was.engine in
     let new_node : Node = node_at (E.device last.engine) (E.contents last.engine) (E.is_faulted last.engine) (K.table last.keyspace) last.heap last.ended.items in
     rw c.fall_behind.ensures.falls

@@ -1,10 +1,7 @@
-use Rattle.std.proofs.Common.{ℕ, List, map, ap, refl, subst, sym, ◌∙◌}
-use Rattle.pmem.specs.Crash.{picked, words_to_crash}
-use Rattle.model.specs.Call.{cut_at}
+use Rattle.std.proofs.Common.{map, refl, subst, sym, ◌∙◌}
+use Rattle.world.specs.Words.{cut_at, left, SessionsRefine}
 use Rattle.machine.specs.declared.event.Cut.TheVariants as cut
-use Rattle.machine.specs.Event.{left}
-use Rattle.connections.specs.Session.{SessionsRefine}
-use Rattle.world.proofs.KeptLemmas.{CrashedIn}
+use Rattle.world.proofs.KeptLemmas.{CrashedIn, crashed-in}
 use Rattle.world.proofs.PairCut.{asked-settled, opening-cut-in, opening-stays, primary-cut}
 use Rattle.world.proofs.pair.Pair.cut_opening.Goals as goal
 
@@ -28,15 +25,7 @@ returns g c =
     let left_ = c.crash_kept.new.self in
     let ended = c.crash.ensures in
     let off : CrashedIn c.args.k c.args.picks.now.items before kept last (E.device left_.committer.engine) =
-    record {
-      keeps = asked.keeps;
-      asked = came.asked_moment;
-      settled = crashed.settled;
-      left = crashed.left;
-      picked_are = λ fed word. crashed.picked fed word ∙ ap (λ (picks : List ℕ). picked (words_to_crash last last.kept) picks word) c.as_slice.ensures.value;
-      lines_are = crashed.lines;
-      moments = crashed.moments;
-    } in
+    crashed-in _ c.as_slice.ensures.value asked.keeps came.asked_moment crashed.settled crashed.left crashed.picked crashed.lines crashed.moments in
     primary-cut _ cut.Reopen c.args.k c.args.picks.now kept last _ _ refl off came.lines
     (opening-cut-in _ _ kept (sym c.has_crashed.ensures ∙ c.if-not-has_crashed.false) asked.keeps last came.moments)
     (λ r many few undamaged machines list stand.

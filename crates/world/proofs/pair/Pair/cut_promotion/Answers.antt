@@ -1,25 +1,17 @@
-use Rattle.std.proofs.Common.{ℕ, List, sym, ap, subst, ◌∙◌}
-use Rattle.pmem.specs.Crash.{picked, words_to_crash}
-use Rattle.pmem.specs.Runs.{LeavesOnly}
-use Rattle.model.specs.Group.{Contents}
-use Rattle.wbl_engine.specs.Promoting.{ExhaustsPromotion}
-use Rattle.failover.specs.Promoting.{IsBeforeOrPromoted}
-use Rattle.machine.specs.declared.event.Cut.TheVariants as cuts
-use Rattle.machine.specs.declared.event.Event.TheVariants.{Crash}
-use Rattle.machine.specs.declared.event.Node.TheVariants.{Standby}
+use Rattle.std.proofs.Common.{sym, ap, subst, ◌∙◌}
+use Rattle.world.specs.Words.{Contents, ExhaustsPromotion, IsBeforeOrPromoted, LeavesOnly}
 use Rattle.world.specs.Standby.{Node, node_at}
-use Rattle.world.proofs.KeptLemmas.{CrashedIn}
-use Rattle.world.proofs.PairCutPromotion.{promotion-cuts, promotion-idle, promotion-lines, promotion-unfenced}
-use Rattle.world.proofs.StepLemmas.{leaves-still}
+use Rattle.world.proofs.KeptLemmas.{CrashedIn, crashed-in}
+use Rattle.world.proofs.PairCutStandby.{promotion-cuts, promotion-idle, promotion-lines, promotion-unfenced}
 use Rattle.world.proofs.pair.Pair.cut_promotion.Goals as goal
 
 pub returns-then-not-has_ended : goal.returns-then-not-has_ended
 returns-then-not-has_ended g c =
-    (promotion-unfenced _ c.args.k c.args.picks.now (sym c.has_ended.ensures ∙ c.if-not-has_ended.true), leaves-still (Crash Standby cuts.Promote c.args.k c.args.picks.now) _)
+    promotion-unfenced _ c.args.k c.args.picks.now (sym c.has_ended.ensures ∙ c.if-not-has_ended.true)
 
 pub returns-then-not-is_running : goal.returns-then-not-is_running
 returns-then-not-is_running g c =
-    (promotion-idle _ c.args.k c.args.picks.now (sym c.is_running.ensures ∙ c.if-not-is_running.true), leaves-still (Crash Standby cuts.Promote c.args.k c.args.picks.now) _)
+    promotion-idle _ c.args.k c.args.picks.now (sym c.is_running.ensures ∙ c.if-not-is_running.true)
 
 pub returns : goal.returns
 returns g c =
@@ -34,16 +26,7 @@ returns g c =
     let crashed = c.crash_kept.ensures in
     let sized = g.met.E.Durable.sized in
     let is : CrashedIn c.args.k c.args.picks.now.items (E.device was.engine) (E.device kept.engine) (E.device mid.engine) (E.device last.engine) =
-    record {
-      keeps = moved.keeps;
-      asked = told.asked_moment;
-      settled = crashed.settled;
-      left = crashed.left;
-      picked_are = λ fed word.
-          crashed.picked fed word ∙ ap (λ (picks : List ℕ). picked (words_to_crash (E.device mid.engine) (E.device mid.engine).kept) picks word) c.as_slice.ensures.value;
-      lines_are = crashed.lines;
-      moments = crashed.moments;
-    } in
+    crashed-in _ c.as_slice.ensures.value moved.keeps told.asked_moment crashed.settled crashed.left crashed.picked crashed.lines crashed.moments in
     let new_node : Node = node_at (E.device last.engine) (E.contents last.engine) (E.is_faulted last.engine) (K.table last.keyspace) last.heap last.ended.items in
     promotion-cuts _ new_node _ (E.device kept.engine) (E.device mid.engine) c.args.k c.args.picks.now
     (record {

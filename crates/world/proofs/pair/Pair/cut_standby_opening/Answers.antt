@@ -1,16 +1,11 @@
-use Rattle.std.proofs.Common.{ℕ, List, refl, sym, ap, ◌∙◌}
-use Rattle.pmem.specs.Crash.{picked, words_to_crash}
-use Rattle.machine.specs.declared.event.Cut.TheVariants.{Reopen}
-use Rattle.machine.specs.declared.event.Event.TheVariants.{Crash}
-use Rattle.machine.specs.declared.event.Node.TheVariants.{Standby}
+use Rattle.std.proofs.Common.{refl, sym, ◌∙◌}
 use Rattle.world.specs.Standby.{Node, arrived_with, node_at}
-use Rattle.world.proofs.KeptLemmas.{CrashedIn}
+use Rattle.world.proofs.KeptLemmas.{CrashedIn, crashed-in}
 use Rattle.world.proofs.PairCutStandby.{opening-cuts, opening-idle}
-use Rattle.world.proofs.StepLemmas.{leaves-still}
 use Rattle.world.proofs.pair.Pair.cut_standby_opening.Goals as goal
 
 pub returns-then-not-has_crashed : goal.returns-then-not-has_crashed
-returns-then-not-has_crashed g c = (opening-idle _ c.args.k c.args.picks.now (sym c.has_crashed.ensures ∙ c.if-not-has_crashed.true), leaves-still (Crash Standby Reopen c.args.k c.args.picks.now) _)
+returns-then-not-has_crashed g c = opening-idle _ c.args.k c.args.picks.now (sym c.has_crashed.ensures ∙ c.if-not-has_crashed.true)
 
 pub returns : goal.returns
 returns g c =
@@ -23,16 +18,7 @@ returns g c =
     let opened = c.restart.ensures in
     let crashed = c.crash_kept.ensures in
     let is : CrashedIn c.args.k c.args.picks.now.items (E.device was.engine) (E.device kept.engine) (E.device mid.engine) (E.device last.engine) =
-    record {
-      keeps = c.keep_at.ensures.keeps;
-      asked = opened.asked_moment;
-      settled = crashed.settled;
-      left = crashed.left;
-      picked_are = λ fed word.
-          crashed.picked fed word ∙ ap (λ (picks : List ℕ). picked (words_to_crash (E.device mid.engine) (E.device mid.engine).kept) picks word) c.as_slice.ensures.value;
-      lines_are = crashed.lines;
-      moments = crashed.moments;
-    } in
+    crashed-in _ c.as_slice.ensures.value c.keep_at.ensures.keeps opened.asked_moment crashed.settled crashed.left crashed.picked crashed.lines crashed.moments in
     let new_node : Node = node_at (E.device last.engine) (E.contents last.engine) (E.is_faulted last.engine) (K.table last.keyspace) last.heap last.ended.items in
     rw c.fall_behind.ensures.falls
     (opening-cuts _ (arrived_with c.fall_behind.new.self.arrivals c.args.history.now.acknowledgements) new_node (E.device kept.engine) (E.device mid.engine) c.args.k c.args.picks.now

@@ -1,10 +1,7 @@
-use Rattle.std.proofs.Common.{ℕ, List, map, ap, subst, sym, ◌∙◌, true≢false}
-use Rattle.pmem.specs.Crash.{picked, words_to_crash}
-use Rattle.model.specs.Call.{cut_at}
-use Rattle.machine.specs.Event.{left}
-use Rattle.connections.specs.Session.{SessionsRefine}
+use Rattle.std.proofs.Common.{map, subst, sym, ◌∙◌, true≢false}
+use Rattle.world.specs.Words.{cut_at, left, SessionsRefine}
 use Rattle.world.specs.Parts.{parts_of}
-use Rattle.world.proofs.KeptLemmas.{CrashedIn}
+use Rattle.world.proofs.KeptLemmas.{CrashedIn, crashed-in}
 use Rattle.world.proofs.PairCutStep.{OnlyKeeps, asked-stands, cut-down, cut-not-due, step-cut}
 use Rattle.world.proofs.pair.Pair.cut_step.Goals as goal
 
@@ -49,17 +46,7 @@ returns g c =
     let only : OnlyKeeps E.device E.contents E.is_faulted c.args.k before kept.committer =
     record { keeps = asked.keeps; contents_are = asked.contents; faulted = asked.faulted; stage = asked.stage; local = asked.local; aside = asked.aside } in
     let off : CrashedIn c.args.k c.args.picks.now.items (E.device before.engine) (E.device kept.committer.engine) (E.device after.committer.engine) (E.device left_.committer.engine) =
-    record {
-      keeps = asked.keeps;
-      asked = came.asked_moment;
-      settled = crashed.settled;
-      left = crashed.left;
-      picked_are = λ fed word.
-          crashed.picked fed word
-          ∙ ap (λ (picks : List ℕ). picked (words_to_crash (E.device after.committer.engine) (E.device after.committer.engine).kept) picks word) c.as_slice.ensures.value;
-      lines_are = crashed.lines;
-      moments = crashed.moments;
-    } in
+    crashed-in _ c.as_slice.ensures.value asked.keeps came.asked_moment crashed.settled crashed.left crashed.picked crashed.lines crashed.moments in
     step-cut E.device E.contents E.is_faulted was c.args.k before kept.committer pair.primary.back.work kept.work pair.handed only asked.work
     after.committer after.work c.commit.new.link c.commit.result c.args.step c.args.picks.now _ _ c.requires.inside up is came.takes sized off
     (λ r many few undamaged machines list stand.

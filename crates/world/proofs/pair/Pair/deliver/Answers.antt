@@ -1,4 +1,4 @@
-use Rattle.std.proofs.lemmas.Result.{IfOk-weaker}
+use Rattle.world.proofs.Words.{IfOk-weaker}
 use Rattle.world.specs.Standby.{arrived_with}
 use Rattle.world.proofs.PairStandby.{deliver-acts}
 use Rattle.world.proofs.pair.Pair.deliver.Goals as goal

@@ -1,7 +1,8 @@
 use Rattle.std.proofs.Common.{refl}
 use Rattle.machine.specs.declared.event.Event.TheVariants as events
-use Rattle.machine.specs.Connection.{changed_at, may_feed, with_inbound, fed_with}
-use Rattle.connections.proofs.SessionLemmas.{on_err_from}
+use Rattle.world.specs.Words.{changed_at, with_inbound}
+use Rattle.world.proofs.Words.{on_err_from}
+use Rattle.machine.specs.Connection.{may_feed, fed_with}
 use Rattle.world.proofs.PairLemmas.{sessions-do, tells}
 use Rattle.world.proofs.pair.Pair.feed.Goals as goal
 

@@ -1,5 +1,5 @@
 use Rattle.std.proofs.Common.{sym, ◌∙◌}
-use Rattle.world.proofs.PairFence.{primary-fenced, primary-fences}
+use Rattle.world.proofs.PairFailing.{primary-fenced, primary-fences}
 use Rattle.world.proofs.pair.Pair.fence.Goals as goal
 
 pub returns-then-has_ended-clause-does : goal.returns-then-has_ended-clause-does

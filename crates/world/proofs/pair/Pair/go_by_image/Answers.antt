@@ -1,5 +1,5 @@
 use Rattle.std.proofs.Common.{◌≡◌, Option, None, Some, refl, sym, ap, subst, ◌∙◌, true≢false}
-use Rattle.model.specs.declared.record.Record.{Record}
+use Rattle.world.specs.Words.{Record}
 use Rattle.world.specs.Cutting.{ComesForward}
 use Rattle.world.specs.Pair.{Pair}
 use Rattle.world.proofs.pair.Pair.go_by_image.Goals as goal

@@ -1,7 +1,8 @@
 use Rattle.std.proofs.Common.{refl}
 use Rattle.machine.specs.declared.event.Event.TheVariants as events
-use Rattle.machine.specs.Connection.{changed_at, may_hold, with_outbound, held_first}
-use Rattle.connections.proofs.SessionLemmas.{on_err_from}
+use Rattle.world.specs.Words.{changed_at, with_outbound}
+use Rattle.world.proofs.Words.{on_err_from}
+use Rattle.machine.specs.Connection.{may_hold, held_first}
 use Rattle.world.proofs.PairLemmas.{sessions-do, tells}
 use Rattle.world.proofs.pair.Pair.hold.Goals as goal
 

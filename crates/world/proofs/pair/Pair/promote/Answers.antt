@@ -1,26 +1,17 @@
 use Rattle.std.proofs.Common.{◌≡◌, ◌<◌, Err, ap, inl, inr, refl, sym, subst, ◌∙◌}
-use Rattle.std.proofs.lemmas.Result.{err_from_is_err_and}
-use Rattle.kv_types.specs.declared.refusal.Refusal.TheVariants.{Fault, Memory}
-use Rattle.pmem.specs.Crash.{image_of}
-use Rattle.pmem.specs.Device.{State}
-use Rattle.pmem.specs.Runs.{LeavesOnly}
+use Rattle.world.specs.Words.{Fault, Holder, image_of, IsOpening, LeavesOnly, Memory, new_stream, Opening, State, World}
+use Rattle.world.proofs.Words.{err_from_is_err_and}
 use Rattle.model.specs.declared.record.Role.TheVariants as role
-use Rattle.model.specs.Standing.{Holder}
-use Rattle.machine.specs.declared.event.Event.TheVariants as events
-use Rattle.machine.specs.Event.{World}
-use Rattle.standby_stream.specs.Delta.{IsOpening}
-use Rattle.standby_stream.specs.Stream.{new_stream}
-use Rattle.standby_stream.specs.declared.opening.Opening.{Opening}
 use Rattle.world.specs.Pair.{NodesRefine}
 use Rattle.world.specs.Standby.{Node, arrived_with, node_at}
 use Rattle.world.proofs.KeptLemmas.{KeepsAsEither}
 use Rattle.world.proofs.OpenedLemmas.{IsNotOpened, IsOpened}
-use Rattle.world.proofs.PairBreaksStandby.{promotion-breaks}
+use Rattle.world.proofs.PairStoppingStandby.{promotion-breaks}
 use Rattle.world.proofs.PairLives.{promote-acts}
 use Rattle.world.proofs.PairPromote.{names-epoch, opening-keeps, opening-refused, promotion-done, promotion-refused}
 use Rattle.world.proofs.PairStandby.{follower}
 use Rattle.world.proofs.PromotionLemmas.{PromotesUnder, WasNotPromoted, not-promoted-keeps}
-use Rattle.world.proofs.StepLemmas.{leaves-still, promoted-is, stays-is}
+use Rattle.world.proofs.StepLemmas.{stays-is}
 use Rattle.world.proofs.pair.Pair.promote.Given.{Over}
 use Rattle.world.proofs.pair.Pair.promote.Goals as goal
 use Rattle.world.proofs.pair.Pair.promote.Goals.{After-crash}
@@ -29,29 +20,30 @@ use Rattle.world.proofs.pair.Pair.promote.Goals.{After-crash}
 under : (g : Over) (c : After-crash g)
     → PromotesUnder c.operator_fence-fenced.result (g.E.Durable.device c.args.self.now.standby.engine) (g.E.Durable.device c.promote_image.new.standby.engine) (g.E.Durable.device c.crash.new.self.engine)
     (g.E.Durable.contents c.args.self.now.standby.engine) (g.E.Durable.contents c.promote_image.new.standby.engine) (g.E.Durable.is_faulted c.args.self.now.standby.engine)
-under g c =
+under g c = λ names sound.
     let crash = c.crash.ensures in
-    let made = c.in_ok-promote_image.ensures in
-    record {
-      moved = made.moved;
-      durable = made.durable;
-      lawful = made.lawful;
-      sized = g.met.E.Durable.sized c.promote_image.new.standby.engine;
-      promoting = made.moments;
-      promoting_failures = made.sound.1;
-      fits = λ names sound reached. let no = made.exhausts names sound reached in cc;
-      settled = crash.settled;
-      image = crash.image;
-      lines_are = crash.lines;
-      failures = crash.failures;
-      moments = crash.moments;
-    }
+    let made = c.in_ok-promote_image.ensures in (
+      record {
+        moved = made.moved;
+        durable = made.durable;
+        lawful = made.lawful;
+        sized = g.met.E.Durable.sized c.promote_image.new.standby.engine;
+        promoting = made.moments names sound;
+        promoting_failures = made.sound.1;
+        settled = crash.settled;
+        image = crash.image;
+        lines_are = crash.lines;
+        failures = crash.failures;
+        moments = crash.moments;
+      },
+      λ reached. let no = made.exhausts names sound reached in cc,
+    )
 
 memory_no_fault : Memory ≡ Fault → ⊥
 memory_no_fault is = cc
 
 pub returns-then-not-has_ended : goal.returns-then-not-has_ended
-returns-then-not-has_ended g c = record { step = stays-is _ events.Promote _ (promote-acts _ (sym c.has_ended.ensures ∙ c.if-not-has_ended.true)) (leaves-still events.Promote _); broken = tt }
+returns-then-not-has_ended g c = record { step = stays-is (promote-acts _ (sym c.has_ended.ensures ∙ c.if-not-has_ended.true)); broken = tt }
 
 pub returns-in_err-promote_image : goal.returns-in_err-promote_image
 returns-in_err-promote_image g c =
@@ -80,7 +72,7 @@ returns-in_err-promote_image g c =
       moments = told.moments names stood.sound;
     }) in
     record {
-      step = promoted-is refl (promotion-refused _ fenced c.requires.follows node' c.from_residual.result exit.0 exit.1 refused) refl refl;
+      step = promotion-refused _ fenced c.requires.follows node' c.from_residual.result exit.0 exit.1 refused;
       broken = rw exit.1
           (λ fault. promotion-breaks _ _ _ _ _ _ node' _ fenced c.requires.follows c.requires.follows refl (sized old.engine) (sym (sized standby.engine) ∙ told.stays.lines ∙ sized old.engine)
           (λ first second w stands.
@@ -114,9 +106,8 @@ returns-in-Err g c =
     let node' : Node = node_at (E.device last.engine) (E.contents last.engine) (E.is_faulted last.engine) (g.K.Keyspace.table last.keyspace) last.heap last.ended.items in
     rw back.gives
     (record {
-      step = promoted-is refl
-          (opening-refused _ fenced c.requires.follows c.operator_fence-fenced.result token (E.device promoted.engine) (E.device crashed.engine) (E.contents promoted.engine) by
-          _ (E.device committer.engine) _ c.in-Err.refusal refl refl first_is second_is refused) refl refl;
+      step = opening-refused _ fenced c.requires.follows c.operator_fence-fenced.result token (E.device promoted.engine) (E.device crashed.engine) (E.contents promoted.engine) by
+          _ (E.device committer.engine) _ c.in-Err.refusal refl refl first_is second_is refused refl refl;
       broken = λ fault.
           promotion-breaks _ _ _ _ _ _ node' _ fenced c.requires.follows refl first_is (sized old.engine) lines
           (λ first second w stands.
@@ -139,10 +130,9 @@ returns-in_err-handed g c =
     let refused : IsNotOpened role.Primary (E.device c.exchange_engine.new.self.committer.engine) (E.device committer.engine) exit.0 =
     record { refused = inr (inl memory); fault = λ is. absurd (let no = sym memory ∙ is in cc); failures = λ other. told.failures (λ fault. cc); moments = told.moments } in
     record {
-      step = promoted-is refl
-          (opening-refused _ fenced c.requires.follows c.operator_fence-fenced.result (c.operator_fence-fenced.ensures ∙ c.epoch.ensures) (E.device promoted.engine) (E.device crashed.engine) (E.contents promoted.engine)
+      step = opening-refused _ fenced c.requires.follows c.operator_fence-fenced.result (c.operator_fence-fenced.ensures ∙ c.epoch.ensures) (E.device promoted.engine) (E.device crashed.engine) (E.contents promoted.engine)
           (under g (goal.at.returns-in_err-handed g c).After-crash) _ (E.device committer.engine) c.from_residual-in_err-handed.result exit.0 exit.1 refl (ap E.device c.exchange_engine.ensures.given) refl
-          (subst (λ e. IsNotOpened role.Primary (E.device e) (E.device committer.engine) exit.0) taken refused)) refl refl;
+          (subst (λ e. IsNotOpened role.Primary (E.device e) (E.device committer.engine) exit.0) taken refused) refl refl;
       broken = rw exit.1 (λ fault. absurd (memory_no_fault (sym memory ∙ fault)));
     }
 
@@ -160,8 +150,7 @@ returns g c =
     let opened : IsOpened role.Primary (E.device c.exchange_engine.new.self.committer.engine) (E.device committer.engine) (E.contents committer.engine) (E.is_faulted committer.engine) =
     record { reopens = told.reopens; durable = told.durable; sound = told.sound; failures = told.failures (λ fault. cc); moments = told.moments } in
     record {
-      step = promoted-is refl
-          (promotion-done _ fenced c.requires.follows c.operator_fence-fenced.result (c.operator_fence-fenced.ensures ∙ c.epoch.ensures) (E.device promoted.engine) (E.device crashed.engine) (E.contents promoted.engine)
+      step = promotion-done _ fenced c.requires.follows c.operator_fence-fenced.result (c.operator_fence-fenced.ensures ∙ c.epoch.ensures) (E.device promoted.engine) (E.device crashed.engine) (E.contents promoted.engine)
           (under g (goal.at.returns g c).After-crash)
           _ c.position-position.result c.position-position.ensures (arrived_with c.crash-3.new.self c.args.history.now.acknowledgements) _ _
           (λ w stand. over.goes w.primary.connections w.primary.calls stand) over.unseated c.crash-3.ensures refl
@@ -182,6 +171,6 @@ returns g c =
             image = image_of (E.device committer.engine).words;
             shows = told.shows;
           })
-          (ap E.device c.exchange_engine.ensures.given) over.calls) refl refl;
+          (ap E.device c.exchange_engine.ensures.given) over.calls;
       broken = tt;
     }

@@ -1,6 +1,7 @@
 use Rattle.std.proofs.Common.{refl}
 use Rattle.machine.specs.declared.event.Event.TheVariants as events
-use Rattle.machine.specs.Connection.{changed_at, may_release, with_outbound, having_released}
+use Rattle.world.specs.Words.{changed_at, with_outbound}
+use Rattle.machine.specs.Connection.{may_release, having_released}
 use Rattle.world.proofs.PairLemmas.{sessions-did}
 use Rattle.world.proofs.pair.Pair.release.Goals as goal
 

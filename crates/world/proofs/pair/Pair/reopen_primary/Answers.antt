@@ -1,10 +1,6 @@
 use Rattle.std.proofs.Common.{Err, ap, inl, inr, refl, sym, subst, ◌∙◌}
-use Rattle.std.proofs.lemmas.Result.{err_from_is_err_and}
-use Rattle.pmem.specs.Crash.{image_of}
-use Rattle.model.specs.declared.record.Role.TheVariants.{Primary}
-use Rattle.standby_stream.specs.Delta.{IsOpening}
-use Rattle.standby_stream.specs.Stream.{new_stream}
-use Rattle.standby_stream.specs.declared.opening.Opening.{Opening}
+use Rattle.world.specs.Words.{image_of, IsOpening, new_stream, Opening, Primary}
+use Rattle.world.proofs.Words.{err_from_is_err_and}
 use Rattle.world.proofs.OpenedLemmas.{IsNotOpened}
 use Rattle.world.proofs.PairCut.{opening-breaks}
 use Rattle.world.proofs.PairReopen.{primary-reopening-cut, primary-reopens, primary-runs-on}

@@ -1,9 +1,9 @@
 use Rattle.std.proofs.Common.{Err, ap, inl, inr, refl, sym, subst, ◌∙◌}
-use Rattle.std.proofs.lemmas.Result.{err_from_is_err_and}
-use Rattle.model.specs.declared.record.Role.TheVariants.{Standby}
+use Rattle.world.specs.Words.{Standby}
+use Rattle.world.proofs.Words.{err_from_is_err_and}
 use Rattle.world.specs.Standby.{Node, node_at}
 use Rattle.world.proofs.OpenedLemmas.{IsNotOpened}
-use Rattle.world.proofs.PairBreaksStandby.{reopening-breaks}
+use Rattle.world.proofs.PairStoppingStandby.{reopening-breaks}
 use Rattle.world.proofs.PairReopen.{standby-reopening-cut, standby-reopens, standby-runs-on}
 use Rattle.world.proofs.pair.Pair.reopen_standby.Goals as goal
 
@@ -16,15 +16,7 @@ returns-in_err-restart-clause-does g c = λ history.
     let standby = c.restart.new.self in
     let told = c.in_err-restart.ensures in
     let exit = err_from_is_err_and c.from_residual.result c.from_residual.ensures.1 in
-    let node' : Node = record {
-      device = E.device standby.engine;
-      contents = E.contents standby.engine;
-      is_faulted = E.is_faulted standby.engine;
-      table = g.K.Keyspace.table standby.keyspace;
-      room = standby.heap;
-      ended = standby.ended.items;
-      epoch = (E.contents standby.engine).current.epoch;
-    } in
+    let node' : Node = node_at (E.device standby.engine) (E.contents standby.engine) (E.is_faulted standby.engine) (g.K.Keyspace.table standby.keyspace) standby.heap standby.ended.items in
     let refused : IsNotOpened Standby (E.device c.args.self.now.standby.engine) node'.device c.in_err-restart.field-0.0 = record {
       refused = elim told.refused [
         | inl fault ↦ inl fault
@@ -43,15 +35,7 @@ returns-clause-does g c = λ history.
     let standby = c.restart.new.self in
     let told = c.in_ok-restart.ensures in
     standby-reopens _
-    (record {
-      device = E.device standby.engine;
-      contents = E.contents standby.engine;
-      is_faulted = E.is_faulted standby.engine;
-      table = g.K.Keyspace.table standby.keyspace;
-      room = standby.heap;
-      ended = standby.ended.items;
-      epoch = (E.contents standby.engine).current.epoch;
-    })
+    (node_at (E.device standby.engine) (E.contents standby.engine) (E.is_faulted standby.engine) (g.K.Keyspace.table standby.keyspace) standby.heap standby.ended.items)
     (sym c.has_crashed.ensures ∙ c.if-not-has_crashed.false) (record { reopens = told.reopens; durable = told.durable; sound = told.sound; failures = told.failures (λ fault. cc); moments = told.moments }) told.follows refl
 
 pub returns-clause-leaves : goal.returns-clause-leaves

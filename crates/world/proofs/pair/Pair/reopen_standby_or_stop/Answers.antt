@@ -12,7 +12,7 @@ pub returns-then-is_fault : goal.returns-then-is_fault
 returns-then-is_fault g c =
     rw c.stop_standby.ensures.stops
     (standby-stops _ _ _ (arrived_with c.stop_standby.new.self.arrivals c.args.history.now.acknowledgements) stops-opening c.if-self.true
-    (fault-breaks (c.is_fault.ensures.0 c.if-is_fault.true) c.reopen_standby-result.ensures.broken c.args.history.now) c.stop_standby.ensures.lost refl)
+    (fault-breaks (c.is_fault.ensures.0 c.if-is_fault.true) c.reopen_standby-result.ensures.broken c.args.history.now) c.stop_standby.ensures.lost refl c.requires.world)
 
 pub returns : goal.returns
-returns g c = acts-is refl refl (c.reopen_standby-result.ensures.does c.args.history.now) (c.reopen_standby-result.ensures.leaves c.args.history.now)
+returns g c = acts-is refl (c.reopen_standby-result.ensures.does c.args.history.now) (c.reopen_standby-result.ensures.leaves c.args.history.now)

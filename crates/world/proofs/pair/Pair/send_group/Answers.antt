@@ -1,7 +1,6 @@
 use Rattle.std.proofs.Common.{◌≡◌, ◌∙◌, ℕ, true, Option, Some, Result, Ok, Err, ap, subst}
-use Rattle.std.proofs.lemmas.Result.{err_from_is_err_and}
-use Rattle.kv_types.specs.declared.refusal.Refusal.{Refusal}
-use Rattle.kv_types.specs.declared.refusal.Refusal.TheVariants.{Memory}
+use Rattle.world.specs.Words.{Memory, Refusal}
+use Rattle.world.proofs.Words.{err_from_is_err_and}
 use Rattle.world.proofs.LinkLemmas.{Answers, sends}
 use Rattle.world.proofs.PairLink.{follows-sends, send-does, send-none, send-cut, tells-still}
 use Rattle.world.proofs.pair.Pair.send_group.Goals as goal

@@ -1,6 +1,5 @@
 use Rattle.std.proofs.Common.{ap, refl, sym, ◌∙◌, true≢false}
-use Rattle.group_commit.specs.declared.due.Due.{Due}
-use Rattle.machine.specs.Event.{is_between}
+use Rattle.world.specs.Words.{Due, is_between}
 use Rattle.world.specs.Cutting.{cut_of}
 use Rattle.world.proofs.PairStopping.{fault-breaks, primary-stops, step-breaks-in, step-takes}
 use Rattle.world.proofs.StepLemmas.{own-is}
@@ -16,7 +15,7 @@ pub returns-then-is_fault : goal.returns-then-is_fault
 returns-then-is_fault g c =
     rw c.stop_primary.ensures
     (primary-stops _ _ (step-breaks-in c.args.step c.requires.inside)
-    (fault-breaks (c.is_fault.ensures.0 c.if-is_fault.true) c.take_step-result.ensures.broken c.requires.inside c.args.history.now) c.if-self.true)
+    (fault-breaks (c.is_fault.ensures.0 c.if-is_fault.true) c.take_step-result.ensures.broken c.requires.inside c.args.history.now) c.if-self.true c.requires.world)
 
 pub returns : goal.returns
 returns g c =

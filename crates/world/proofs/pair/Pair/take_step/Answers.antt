@@ -1,12 +1,11 @@
 use Rattle.std.proofs.Common.{List, Ok, Err, ◌++◌, [], ap, sym, ◌∙◌, append-nil, true≢false}
-use Rattle.std.proofs.lemmas.Result.{err_from_is_err_and}
-use Rattle.wbl_engine.specs.declared.freeing.Freed.{Freed}
-use Rattle.primary.specs.Standing.{notices_of}
+use Rattle.world.specs.Words.{Freed, notices_of}
+use Rattle.world.proofs.Words.{err_from_is_err_and}
 use Rattle.world.specs.Parts.{parts_of}
 use Rattle.world.specs.declared.history.History.{History}
 use Rattle.world.proofs.LivesLemmas.{serves-as}
 use Rattle.world.proofs.PairLemmas.{back-stands}
-use Rattle.world.proofs.PairStepLeft.{step-breaks}
+use Rattle.world.proofs.PairCutStep.{step-breaks}
 use Rattle.world.proofs.PairStepping.{noted-so, step-did, step-idle, step-roomless}
 use Rattle.world.proofs.PairTurns.{took-step}
 use Rattle.world.proofs.pair.Pair.take_step.Goals as goal

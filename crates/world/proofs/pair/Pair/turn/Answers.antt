@@ -1,5 +1,5 @@
 use Rattle.std.proofs.Common.{refl, ◌∙◌}
-use Rattle.std.proofs.lemmas.Result.{err_from_is_err_and}
+use Rattle.world.proofs.Words.{err_from_is_err_and}
 use Rattle.world.proofs.PairLemmas.{turn-does}
 use Rattle.world.proofs.pair.Pair.turn.Goals as goal
 

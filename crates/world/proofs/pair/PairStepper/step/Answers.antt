@@ -1,8 +1,8 @@
-use Rattle.std.proofs.Common.{ap, refl, sym, ◌∙◌}
-use Rattle.std.proofs.lemmas.Bool.{and_parts}
+use Rattle.std.proofs.Common.{ap, sym, ◌∙◌}
+use Rattle.world.specs.Words.{Newcomer, PinCopy, SendCopy}
+use Rattle.world.proofs.Words.{and_parts}
 use Rattle.world.specs.Condition.{runs}
 use Rattle.world.specs.Pair.{takes_part}
-use Rattle.machine.specs.declared.event.Event.TheVariants.{Newcomer, PinCopy, SendCopy}
 use Rattle.world.proofs.StepLemmas.{acts-is, copy-does, idle-is, leaves-still, newcomer-does, own-is, pin-does, turn-is}
 use Rattle.world.proofs.pair.PairStepper.step.Goals as goal
 
@@ -79,7 +79,7 @@ pub returns-in-OpenLink : goal.returns-in-OpenLink
 returns-in-OpenLink g c = own-is c.in-OpenLink.is c.takes_part.ensures c.if-not-takes_part.false (λ both. (and_parts (runs c.args.self.now.primary_condition) (runs c.args.self.now.standby_condition) both).0) c.open_link.ensures.does c.open_link.ensures.leaves
 
 pub returns-in-Deliver : goal.returns-in-Deliver
-returns-in-Deliver g c = acts-is c.in-Deliver.is refl c.deliver.ensures.does c.deliver.ensures.leaves
+returns-in-Deliver g c = acts-is c.in-Deliver.is c.deliver.ensures.does c.deliver.ensures.leaves
 
 pub returns-in-Apply : goal.returns-in-Apply
 returns-in-Apply g c = rw c.in-Apply.is c.apply_or_stop.ensures
@@ -95,10 +95,10 @@ fail_fence-requires g c =
     ap (takes_part (runs c.args.self.now.primary_condition) (runs c.args.self.now.standby_condition)) (sym c.in-FailFence.is) ∙ sym c.takes_part.ensures ∙ c.if-not-takes_part.false
 
 pub returns-in-FailFence : goal.returns-in-FailFence
-returns-in-FailFence g c = acts-is c.in-FailFence.is refl (c.fail_fence.ensures.does c.args.history.now) (c.fail_fence.ensures.leaves c.args.history.now)
+returns-in-FailFence g c = acts-is c.in-FailFence.is (c.fail_fence.ensures.does c.args.history.now) (c.fail_fence.ensures.leaves c.args.history.now)
 
 pub returns-in-Fence : goal.returns-in-Fence
-returns-in-Fence g c = acts-is c.in-Fence.is refl (c.fence.ensures.does c.args.history.now) (c.fence.ensures.leaves c.args.history.now)
+returns-in-Fence g c = acts-is c.in-Fence.is (c.fence.ensures.does c.args.history.now) (c.fence.ensures.leaves c.args.history.now)
 
 pub returns-in-Promote : goal.returns-in-Promote
 returns-in-Promote g c = rw c.in-Promote.is c.promote_or_stop.ensures
