@@ -1,5 +1,5 @@
 -- A group that is committed, told of, or handed on is an act.
-use Rattle.std.proofs.Common.{◌≡◌, ◌≤◌, ℕ, inl, inr, Bool, true, false, cond, nat_lt, List, [], ◌∷◌, ◌++◌, length, Option, Some, refl, sym, ap, ap₂, subst, ◌∙◌, le_refl, append-nil, max}
+use Rattle.std.proofs.Common.{◌≡◌, ℕ, inl, Bool, true, false, cond, nat_lt, List, [], ◌∷◌, ◌++◌, length, Option, Some, refl, sym, ap, ap₂, subst, ◌∙◌, le_refl, append-nil, max}
 use Rattle.std.proofs.lemmas.List.{map-append}
 use Rattle.pmem.specs.Device.{State}
 use Rattle.model.specs.declared.call.Call.{Call}
@@ -41,7 +41,7 @@ use Rattle.machine.proofs.SoundEvents.{sound-step}
 use Rattle.connections.specs.Session.{SequencerRefines}
 use Rattle.node_steps.specs.Acts.{Act, Committed, Did, HandedOn, Raised, StepsTo, event_of, handed_by}
 use Rattle.node_steps.specs.Committing.{Committing, CommittingRefines, Durable, Ready, Shown, Stage, StageRefines}
-use Rattle.node_steps.specs.GroupSpan.{AreGroupsOf, AreWorkOf, positions_of_lists}
+use Rattle.node_steps.specs.GroupSpan.{AreGroupsOf, AreWorkOf}
 use Rattle.node_steps.specs.Node.{Node, NodeRefines, past_of}
 use Rattle.node_steps.proofs.ActLemmas.{primary-steps}
 use Rattle.node_steps.proofs.CommittingLemmas.{FirstGroup, first-group}

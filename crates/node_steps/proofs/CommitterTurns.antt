@@ -1,5 +1,5 @@
 -- What a turn of the committer came to, whatever step was due, is the acts that its answer names.
-use Rattle.std.proofs.Common.{◌≡◌, ◌<◌, ◌++◌, ℕ, inl, inr, Bool, true, false, cond, ◌&&◌, nat_lt, nat_le, length, List, [], ◌∷◌, Result, Ok, Err, Option, refl, sym, ap, ap₂, subst, ◌∙◌, arith, append-nil, append_assoc, length-append, true≢false}
+use Rattle.std.proofs.Common.{◌≡◌, ◌<◌, ◌++◌, ℕ, inl, inr, Bool, true, false, nat_lt, length, List, [], ◌∷◌, Result, Ok, Err, Option, refl, sym, ap, ap₂, subst, ◌∙◌, arith, append-nil, append_assoc, length-append, true≢false}
 use Rattle.std.proofs.lemmas.Bool.{cases_Bool}
 use Rattle.std.specs.List.{flat_map}
 use Rattle.pmem.specs.Device.{State}
@@ -16,7 +16,7 @@ use Rattle.wbl_engine.specs.CommittingAll.{CommitsEach, ExhaustsOne, after_commi
 use Rattle.pipes.specs.Waiting.{Waiting}
 use Rattle.redis_core.specs.Sequencing.{Sequencing}
 use Rattle.group_commit.specs.Committing.{Commits, HasShown, in_hand}
-use Rattle.group_commit.specs.Due.{due_beside, due_now, due_of, has_group, left_by, reached_by}
+use Rattle.group_commit.specs.Due.{due_now, due_of, has_group, left_by, reached_by}
 use Rattle.group_commit.specs.Group.{lists_of}
 use Rattle.group_commit.specs.Working.{AreTakenEach, ClearsGap, FreesReached, HandsOn, LacksRoom, OffersNone, TakesGroups, Takes}
 use Rattle.group_commit.specs.declared.committer.Committer.{Committer}

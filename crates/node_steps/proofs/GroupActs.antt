@@ -44,7 +44,7 @@ fits-under floor contents (group ∷ groups) (inl this) = inl this
 fits-under floor contents (group ∷ groups) (inr later) = inr (fits-under floor (after_group contents group) groups later)
 
 -- what the thread has once a group is handed on that it committed behind these lists
-abbrev having : Node → Waiting Work → List FreeList → State → Contents → Bool → Node
+abbrev pub having : Node → Waiting Work → List FreeList → State → Contents → Bool → Node
 having old after lists device contents is_faulted =
     with_back old (record { waiting = after; aside = old.committing.aside ++ lists; stage = Ready; local = contents.current.position }) old.notices device contents is_faulted
 
@@ -82,6 +82,7 @@ pub each-group : (remote : ℕ) (groups : List Group) (group : Group) (old : Nod
     → AreTakenEach old.committing.waiting.items lists (group ∷ groups) after.items → CommitsEach remote old.contents (group ∷ groups) old.device device → is_faulted ≡ false
     → ¬ ExhaustsOne old.contents (group ∷ groups)
     → AreBacks old (flat_map acts_of_group (group ∷ groups)) (having old after lists device (after_commits remote old.contents (group ∷ groups)) is_faulted)
+unfolding left-of
 each-group remote [] group old lists after device is_faulted ready taken commits sound fits =
     let (front, rest, between, is, one, others) = taken in
     let (middle, leaves, durable, same) = commits in

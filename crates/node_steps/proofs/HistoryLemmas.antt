@@ -13,7 +13,7 @@ use Rattle.node_steps.proofs.Meanwhile.{Meanwhile}
 use Rattle.node_steps.proofs.OthersLemmas.{meanwhile-others}
 use Rattle.node_steps.specs.GroupSpan.{AreGroupsOf}
 use Rattle.node_steps.specs.Others.{OthersRun}
-use Rattle.node_steps.specs.Node.{Node, NodeRefines, past_of}
+use Rattle.node_steps.specs.Node.{Node, NodeRefines}
 
 -- the groups that are left are those of the spans that are
 groups-left : (calls : List Call) (groups : List Group) (sent spans : List Span) → AreGroupsOf calls groups (sent ++ spans) → AreGroupsOf calls (drop (length sent) groups) spans

@@ -13,7 +13,7 @@ use Rattle.group_commit.specs.declared.due.Due.{Due}
 use Rattle.group_commit.specs.declared.due.Due.TheVariants as due
 use Rattle.group_commit.specs.declared.stage.Stage.TheVariants as committer_stage
 use Rattle.machine.specs.declared.event.Event.TheVariants.{ClearGap, Commit, Free}
-use Rattle.machine.specs.Event.{Commits, Frees, Span, Stage as MachineStage, Work as MachineWork, World, first_is_within, from_group, has_room, is_ready, may_happen, reached_lists}
+use Rattle.machine.specs.Event.{Commits, Frees, Stage as MachineStage, Work as MachineWork, World, first_is_within, from_group, has_room, is_ready, may_happen, reached_lists}
 use Rattle.machine.specs.Event as machine
 use Rattle.machine.specs.World as machine_stage
 use Rattle.node_steps.specs.Committing.{Committing, CommittingRefines, Durable, Ready, Shown, Stage, StageRefines}

@@ -22,8 +22,9 @@ pub fn openings_stand()
     ensures { OpeningsStand }
 {}
 
-/// What a turn of the committer answers names the event that it was, if any: a commit, the local mark that rises, a group that is handed on, a list that is freed,
-/// a gap that is cleared. By what is offered to the link, the group is the one that the machine hands on. Where memory was refused and nothing went aside, it was none.
+/// What a turn of the committer answers names the events that it was, if any: where it committed, for each of its groups the commit, the local mark that rises, and the
+/// group that is handed on, one group after another; a list that is freed; a gap that is cleared. The groups that the machine hands on are those that are offered to the
+/// link, or are in hand and come next, in this order. Where memory was refused and nothing went aside, it was none.
 pub fn turns_are_acts<E: Durable, O: Outlet<Item = Group>>()
     ensures came { TurnsAreActs E.device E.contents E.is_faulted O.offered O.known_room }
     ensures refused { RefusedTurnsAreNone E.device E.contents E.is_faulted O.offered O.known_room }

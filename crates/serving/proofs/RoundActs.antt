@@ -5,11 +5,10 @@ use Rattle.std.specs.List.{flat_map}
 use Rattle.pmem.specs.Device.{State}
 use Rattle.model.specs.declared.group.Group.{Group}
 use Rattle.model.specs.Group.{Contents}
-use Rattle.pipes.specs.Ring.{offered_at}
 use Rattle.redis_core.specs.Sequencing.{Sequencing}
 use Rattle.node_steps.specs.Acts.{handed_by}
 use Rattle.node_steps.proofs.HistoryLemmas.{acts-append}
-use Rattle.serving.specs.Acts.{DoesActs, DoesOrVain, IsOfRound, RoundsAreActs, ServesActs, SetsAsideInVain, node_at}
+use Rattle.serving.specs.Acts.{DoesActs, DoesOrVain, IsOfRound, RoundsAreActs, ServesActs, SetsAsideInVain, node_at, offered_or_in_hand}
 use Rattle.serving.specs.declared.commit_job.CommitJob.{CommitJob}
 use Rattle.serving.proofs.StepActs.{fetches-acts, tends-acts}
 use Rattle.serving.proofs.VisitActs.{serves-acts}
@@ -18,13 +17,17 @@ module _ {E : Type 0} (device : E → State) (contents : E → Contents) (is_fau
   abbrev Does : List (Option ℕ) → Sequencing → CommitJob E → List (Option ℕ) → Sequencing → CommitJob E → Type 0
   Does = DoesActs device contents is_faulted
 
+  -- what was offered to its link, or is in hand
+  abbrev gone_of : CommitJob E → List Group
+  gone_of job = offered_or_in_hand job.groups job.back.committer.stage
+
   does-then : (seats at seats' : List (Option ℕ)) (old middle new : Sequencing) (job between job' : CommitJob E) → Does seats old job at middle between → Does at middle between seats' new job' → Does seats old job seats' new job'
   does-then seats at seats' old middle new job between job' first second = record {
     acts = first.acts ++ second.acts;
     are = acts-append (node_at device contents is_faulted seats old job) (node_at device contents is_faulted at middle between) (node_at device contents is_faulted seats' new job') first.acts second.acts first.are second.are;
     offered = second.offered ∙ ap (λ (xs : List Group). xs ++ flat_map handed_by second.acts) first.offered
-        ∙ append_assoc (offered_at job.groups) (flat_map handed_by first.acts) (flat_map handed_by second.acts)
-        ∙ ap (λ (xs : List Group). offered_at job.groups ++ xs) (sym (flat_map-append handed_by first.acts second.acts));
+        ∙ append_assoc (gone_of job) (flat_map handed_by first.acts) (flat_map handed_by second.acts)
+        ∙ ap (λ (xs : List Group). gone_of job ++ xs) (sym (flat_map-append handed_by first.acts second.acts));
   }
 
   -- the front's, while the job is as it was
@@ -32,7 +35,7 @@ module _ {E : Type 0} (device : E → State) (contents : E → Contents) (is_fau
   serves-does seats seats' old new job serves = record {
     acts = serves.acts;
     are = serves.are (node_at device contents is_faulted seats old job);
-    offered = sym (ap (λ (xs : List Group). offered_at job.groups ++ xs) serves.none_handed ∙ append-nil (offered_at job.groups));
+    offered = sym (ap (λ (xs : List Group). gone_of job ++ xs) serves.none_handed ∙ append-nil (gone_of job));
   }
 
   -- all of a round: the job was fetched, tended, connections were served, and it was tended again; each of the three jobs is one of it

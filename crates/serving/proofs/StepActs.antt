@@ -1,5 +1,5 @@
 -- What is done with the committer's job is acts.
-use Rattle.std.proofs.Common.{◌≡◌, ◌⊎◌, inl, inr, ℕ, Bool, true, false, nat_lt, length, List, [], ◌∷◌, ◌++◌, Option, Some, None, Result, Ok, Err, is_ok, refl, sym, ap, subst, ◌∙◌, append_assoc, append-nil, true≢false}
+use Rattle.std.proofs.Common.{◌≡◌, ◌⊎◌, inl, inr, ℕ, Bool, true, false, nat_lt, length, List, [], ◌∷◌, ◌++◌, Option, Some, None, Result, Ok, Err, is_ok, refl, sym, ap, ap₂, subst, ◌∙◌, append_assoc, append-nil, true≢false}
 use Rattle.std.proofs.lemmas.Bool.{cases_eq}
 use Rattle.std.proofs.lemmas.Grind.{flat_map-append}
 use Rattle.std.specs.List.{AllByRecursion, flat_map}
@@ -17,6 +17,7 @@ use Rattle.pipes.specs.Waiting.{Waiting}
 use Rattle.pipes.specs.declared.ring_pipe.RingOutlet.{RingOutlet}
 use Rattle.pipes.specs.Ring.{offered_at}
 use Rattle.redis_core.specs.Sequencing.{Sequencing}
+use Rattle.group_commit.specs.Committing.{in_hand}
 use Rattle.group_commit.specs.declared.committer.Committer.{Committer}
 use Rattle.group_commit.specs.declared.stage.Done.{Done}
 use Rattle.group_commit.specs.declared.stage.Done.TheVariants as done
@@ -28,7 +29,7 @@ use Rattle.node_steps.specs.Node.{Node}
 use Rattle.node_steps.proofs.CommitterTurns.{turns-come, turns-refused}
 use Rattle.node_steps.proofs.FrontActs.{closed-act, told-act}
 use Rattle.node_steps.proofs.HistoryLemmas.{acts-append}
-use Rattle.serving.specs.Acts.{DoesActs, DoesOrVain, FreesInVain, IsJob}
+use Rattle.serving.specs.Acts.{DoesActs, DoesOrVain, FreesInVain, IsJob, offered_or_in_hand}
 use Rattle.serving.specs.Closing.{ClosesBoth, ClosesDue}
 use Rattle.serving.specs.CommitJob.{AreSteps, IsStep}
 use Rattle.serving.specs.Stepping.{EndAs, answer_of, goes_on, is_passed, passed_on}
@@ -72,46 +73,50 @@ module _ {E : Type 0} (device : E → State) (contents : E → Contents) (is_fau
   abbrev node : Sequencing → List Places → Back E → Node
   node s notices back = node_of device contents is_faulted seats s notices back.committer back.work
 
-  -- acts of the back, and what they handed on
-  record BackActs {P : Type 0} (old : Node) (link : RingOutlet Group P) (new : Node) (link' : RingOutlet Group P) : Type 0 where
+  -- acts of the back, and what they handed on: what was offered or in hand before, and after
+  record BackActs (old : Node) (gone : List Group) (new : Node) (gone' : List Group) : Type 0 where
     pub acts : List Act
     pub are : AreActs old acts new
-    pub offered : offered_at link' ≡ offered_at link ++ flat_map handed_by acts
+    pub offered : gone' ≡ gone ++ flat_map handed_by acts
 
-  no-acts : {P : Type 0} (same : Node) (link : RingOutlet Group P) → BackActs same link same link
-  no-acts same link = record { acts = []; are = refl; offered = sym (append-nil (offered_at link)) }
+  no-acts : (same : Node) (gone : List Group) → BackActs same gone same gone
+  no-acts same gone = record { acts = []; are = refl; offered = sym (append-nil gone) }
 
-  then-acts : {P : Type 0} {old middle new : Node} {link at link' : RingOutlet Group P} → BackActs old link middle at → BackActs middle at new link' → BackActs old link new link'
-  then-acts {P} {old} {middle} {new} {link} {at} {link'} first second = record {
+  then-acts : {old middle new : Node} {gone at gone' : List Group} → BackActs old gone middle at → BackActs middle at new gone' → BackActs old gone new gone'
+  then-acts {old} {middle} {new} {gone} {at} {gone'} first second = record {
     acts = first.acts ++ second.acts;
     are = acts-append old middle new first.acts second.acts first.are second.are;
     offered = second.offered ∙ ap (λ (xs : List Group). xs ++ flat_map handed_by second.acts) first.offered
-        ∙ append_assoc (offered_at link) (flat_map handed_by first.acts) (flat_map handed_by second.acts)
-        ∙ ap (λ (xs : List Group). offered_at link ++ xs) (sym (flat_map-append handed_by first.acts second.acts));
+        ∙ append_assoc gone (flat_map handed_by first.acts) (flat_map handed_by second.acts)
+        ∙ ap (λ (xs : List Group). gone ++ xs) (sym (flat_map-append handed_by first.acts second.acts));
   }
+
+  -- what was offered to this link, or is in hand there
+  abbrev gone_of : {P : Type 0} → RingOutlet Group P → Back E → List Group
+  gone_of link back = offered_or_in_hand link back.committer.stage
 
   -- ---- steps
 
   module _ {P : Type 0} (remote : ℕ) (s : Sequencing) where
     step-acts : (old : Back E) (link : RingOutlet Group P) (came : Done) (new : Back E) (link' : RingOutlet Group P) → IsStep device contents is_faulted remote old link (Ok came) new link'
-        → BackActs (node s [] old) link (node s (notices_of came) new) link'
+        → BackActs (node s [] old) (gone_of link old) (node s (notices_of came) new) (gone_of link' new)
     step-acts old link came new link' is =
         let room = nat_lt 0 (known_free link'.producer) in
         let was = turns-come device contents is_faulted offered_at (λ (end : RingOutlet Group P). known_free end.producer) seats s [] old.committer new.committer old.work new.work link link' room remote came is in
-        record { acts = acts_of old.committer.stage room remote (Ok came); are = was.0; offered = was.1 }
+        record { acts = acts_of (in_hand new.committer.stage) room remote (Ok came); are = was.0; offered = was.1 }
 
     -- each went on
     going-acts : (all : List (Result Done Refusal)) (old : Back E) (link : RingOutlet Group P) (new : Back E) (link' : RingOutlet Group P) → AllByRecursion (λ came. goes_on came ≡ true) all
-        → AreSteps device contents is_faulted remote old link all new link' → BackActs (node s [] old) link (node s [] new) link'
-    going-acts [] old link new link' each steps = rw (steps.0, steps.1) (no-acts (node s [] old) link)
+        → AreSteps device contents is_faulted remote old link all new link' → BackActs (node s [] old) (gone_of link old) (node s [] new) (gone_of link' new)
+    going-acts [] old link new link' each steps = rw (steps.0, steps.1) (no-acts (node s [] old) (gone_of link old))
     going-acts (Ok came ∷ all) old link new link' each (between, at, is, steps) =
-        then-acts (subst (λ (told : List Places). BackActs (node s [] old) link (node s told between) at) (passed-untold came each.0) (step-acts old link came between at is))
+        then-acts (subst (λ (told : List Places). BackActs (node s [] old) (gone_of link old) (node s told between) (gone_of at between)) (passed-untold came each.0) (step-acts old link came between at is))
         (going-acts all between at new link' each.1 steps)
     going-acts (Err cause ∷ all) old link new link' each steps = absurd (true≢false (sym each.0))
 
     -- the last of them, by what was answered of it
     abbrev Last : Back E → RingOutlet Group P → Done → Back E → RingOutlet Group P → Type 0
-    Last old link last new link' = BackActs (node s [] old) link (node s (notices_of last) new) link' ⊎ FreesInVain device contents is_faulted remote new link'
+    Last old link last new link' = BackActs (node s [] old) (gone_of link old) (node s (notices_of last) new) (gone_of link' new) ⊎ FreesInVain device contents is_faulted remote new link'
 
     refused-acts : (old : Back E) (link : RingOutlet Group P) (new : Back E) (link' : RingOutlet Group P) → IsStep device contents is_faulted remote old link (Err refusal.Memory) new link'
         → Last old link done.Idle new link'
@@ -125,7 +130,7 @@ module _ {E : Type 0} (device : E → State) (contents : E → Contents) (is_fau
 
     last-acts : (came : Result Done Refusal) (old : Back E) (link : RingOutlet Group P) (last : Done) (new : Back E) (link' : RingOutlet Group P) → passed_on came ≡ Ok last
         → IsStep device contents is_faulted remote old link came new link' → Last old link last new link'
-    last-acts (Ok came) old link last new link' is step = inl (subst (λ (d : Done). BackActs (node s [] old) link (node s (notices_of d) new) link') (ok-is came last is) (step-acts old link came new link' step))
+    last-acts (Ok came) old link last new link' is step = inl (subst (λ (d : Done). BackActs (node s [] old) (gone_of link old) (node s (notices_of d) new) (gone_of link' new)) (ok-is came last is) (step-acts old link came new link' step))
     last-acts (Err refusal.Memory) old link last new link' is step = subst (λ (d : Done). Last old link d new link') (ok-is done.Idle last is) (refused-acts old link new link' step)
     last-acts (Err other) old link last new link' is step = cc
 
@@ -146,7 +151,7 @@ module _ {E : Type 0} (device : E → State) (contents : E → Contents) (is_fau
     steps-acts : (all : List (Result Done Refusal)) (stepped : Stepped) (old : Back E) (link : RingOutlet Group P) (new : Back E) (link' : RingOutlet Group P)
         → AreSteps device contents is_faulted remote old link all new link' → EndAs all (Ok stepped) → Last old link stepped.last new link'
     steps-acts all stepped old link new link' steps (inl most) =
-        inl (subst (λ (d : Done). BackActs (node s [] old) link (node s (notices_of d) new) link') (sym (ap (λ (t : Stepped). t.last) (stepped-is stepped _ most.answer_is)))
+        inl (subst (λ (d : Done). BackActs (node s [] old) (gone_of link old) (node s (notices_of d) new) (gone_of link' new)) (sym (ap (λ (t : Stepped). t.last) (stepped-is stepped _ most.answer_is)))
         (going-acts all old link new link' most.each steps))
     steps-acts all stepped old link new link' steps (inr ends) =
         let parts = split ends.before ends.last old link new link' (subst (λ (xs : List (Result Done Refusal)). AreSteps device contents is_faulted remote old link xs new link') ends.in_order steps) in
@@ -180,7 +185,7 @@ module _ {E : Type 0} (device : E → State) (contents : E → Contents) (is_fau
   abbrev DoesOr : Sequencing → CommitJob E → Sequencing → CommitJob E → Type 0
   DoesOr old job new job' = DoesOrVain device contents is_faulted seats old job seats new job'
 
-  does-by : (old new : Sequencing) (job job' : CommitJob E) → BackActs (node old [] job.back) job.groups (node new [] job'.back) job'.groups → Does old job new job'
+  does-by : (old new : Sequencing) (job job' : CommitJob E) → BackActs (node old [] job.back) (gone_of job.groups job.back) (node new [] job'.back) (gone_of job'.groups job'.back) → Does old job new job'
   does-by old new job job' by = record { acts = by.acts; are = by.are; offered = by.offered }
 
   -- it came back, and the front was told
@@ -190,7 +195,11 @@ module _ {E : Type 0} (device : E → State) (contents : E → Contents) (is_fau
         | inl acts ↦
             let tells = told-acts stepped.last job.back old new told in
             inl (does-by old new lent job
-            (then-acts acts (record { acts = tells.acts; are = tells.are; offered = sym (ap (λ (xs : List Group). offered_at job.groups ++ xs) tells.none ∙ append-nil (offered_at job.groups)) })))
+            (then-acts acts (record {
+              acts = tells.acts;
+              are = tells.are;
+              offered = sym (ap (λ (xs : List Group). gone_of job.groups job.back ++ xs) tells.none ∙ append-nil (gone_of job.groups job.back));
+            })))
         | inr vain ↦ inr (subst (λ n. FreesInVain device contents is_faulted n job.back job.groups) (sym remote_is) vain)
       ]
 
@@ -225,11 +234,12 @@ module _ {E : Type 0} (device : E → State) (contents : E → Contents) (is_fau
 
   then-does : (old middle new : Sequencing) (job at job' : CommitJob E) → Does old job middle at → DoesOr middle at new job' → DoesOr old job new job'
   then-does old middle new job at job' first (inl second) =
-      inl (does-by old new job job' (then-acts {at = at.groups} (record { acts = first.acts; are = first.are; offered = first.offered }) (record { acts = second.acts; are = second.are; offered = second.offered })))
+      inl (does-by old new job job'
+      (then-acts {at = gone_of at.groups at.back} (record { acts = first.acts; are = first.are; offered = first.offered }) (record { acts = second.acts; are = second.are; offered = second.offered })))
   then-does old middle new job at job' first (inr vain) = inr vain
 
   no-does : (s : Sequencing) (job : CommitJob E) → DoesOr s job s job
-  no-does s job = inl (does-by s s job job (no-acts (node s [] job.back) job.groups))
+  no-does s job = inl (does-by s s job job (no-acts (node s [] job.back) (gone_of job.groups job.back)))
 
   steps-taken : (heard : ℕ) (is_short : Bool) (job : CommitJob E) (lender : EndView (CommitJob E)) (old : Sequencing) (home' : Option (CommitJob E)) (lender' : EndView (CommitJob E)) (new : Sequencing) (it : JobCame)
       → HasStepsTaken device contents is_faulted heard is_short job lender old home' lender' new it → JobActs old job home' lender' new
@@ -248,7 +258,8 @@ module _ {E : Type 0} (device : E → State) (contents : E → Contents) (is_fau
       record {
         acts = closes.acts;
         are = subst (λ (k : Committer E). AreActs (node old [] job.back) closes.acts (node_of device contents is_faulted seats tends.between [] k ready.back.work)) (sym tends.committer) closes.are;
-        offered = tends.offered ∙ sym (ap (λ (xs : List Group). offered_at job.groups ++ xs) closes.none ∙ append-nil (offered_at job.groups));
+        offered = ap₂ (λ (xs : List Group) (k : Committer E). xs ++ in_hand k.stage) tends.offered tends.committer
+            ∙ sym (ap (λ (xs : List Group). gone_of job.groups job.back ++ xs) closes.none ∙ append-nil (gone_of job.groups job.back));
       } in
       record { job' = taken.job'; is_job = taken.is_job; does = then-does old tends.between new job ready taken.job' first taken.does }
     where

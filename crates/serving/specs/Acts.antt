@@ -11,6 +11,8 @@ use Rattle.pipes.specs.declared.ring_pipe.RingOutlet.{RingOutlet}
 use Rattle.pipes.specs.Ring.{offered_at}
 use Rattle.connections.specs.Session.{HasSeat}
 use Rattle.redis_core.specs.Sequencing.{Sequencing}
+use Rattle.group_commit.specs.Committing.{in_hand}
+use Rattle.group_commit.specs.declared.stage.Stage.{Stage}
 use Rattle.primary.specs.declared.back.Back.{Back}
 use Rattle.node_steps.specs.Acts.{Act, AreActs, handed_by}
 use Rattle.node_steps.specs.Clauses.{node_of}
@@ -41,17 +43,25 @@ pub record ServesActs (seats : List (Option ℕ)) (old : Sequencing) (seats' : L
   pub are : (node : Node) → AreActs (with_seats seats old node) acts (with_seats seats' new node)
   pub none_handed : flat_map handed_by acts ≡ []
 
+-- ---- the back
+
+-- the groups that were offered to the link, and behind them those in hand, the first of which is offered next
+abbrev pub offered_or_in_hand : {P : Type 0} → RingOutlet Group P → Stage → List Group
+offered_or_in_hand link stage = offered_at link ++ in_hand stage
+
 -- by what is known of an engine
 module _ {E : Type 0} (device : E → State) (contents : E → Contents) (is_faulted : E → Bool) where
   -- what the thread has, with this sequencer and this job, to which nothing is to be told
   abbrev pub node_at : List (Option ℕ) → Sequencing → CommitJob E → Node
   node_at seats s job = node_of device contents is_faulted seats s [] job.back.committer job.back.work
 
-  -- what was done is a list of acts, and the groups that it handed on are those that were offered to the link
+  -- What was done is a list of acts, and each group that they hand on was offered to the link, or is in hand and comes next there: with none in hand before and
+  -- after, just those were offered.
   pub record DoesActs (seats : List (Option ℕ)) (old : Sequencing) (job : CommitJob E) (seats' : List (Option ℕ)) (new : Sequencing) (job' : CommitJob E) : Type 0 where
     pub acts : List Act
     pub are : AreActs (node_at seats old job) acts (node_at seats' new job')
-    pub offered : offered_at job'.groups ≡ offered_at job.groups ++ flat_map handed_by acts
+    pub offered : offered_or_in_hand job'.groups job'.back.committer.stage
+        ≡ offered_or_in_hand job.groups job.back.committer.stage ++ flat_map handed_by acts
 
   -- The last step was to free a list, for which the lists that waited had gone aside, and memory for that was refused: of this the machine has no event.
   abbrev pub FreesInVain : {P : Type 0} → ℕ → Back E → RingOutlet Group P → Type 0
