@@ -24,9 +24,10 @@ pub record IsPartOf (words whole : List ℕ) : Type 0 where
   pub size : length words ≡ length whole
   pub each : (k : ℕ) → k < length words → (slice_index words k ≡ 0) ⊎ (slice_index words k ≡ slice_index whole k)
 
--- these words are a head of this shape and generation; or the journal has not begun, and its generation is 0
+-- These words are a head of this shape and generation; or the journal has not begun, its generation is 0, and the shape is the one in which files are made: what
+-- stands behind an image is written over in no other.
 abbrev pub IsTold : Shape → ℕ → List ℕ → Type 0
-IsTold shape generation words = (words ≡ head_of shape generation) ⊎ (generation ≡ 0)
+IsTold shape generation words = (words ≡ head_of shape generation) ⊎ ((generation ≡ 0) × IsMade shape)
 
 -- the file's first line was looked at, and then the line behind the image, which told a head of this shape and generation
 pub record IsSeen (head : Head) (old new : List Step) : Type 0 where

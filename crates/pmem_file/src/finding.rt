@@ -7,7 +7,7 @@ ghost use Rattle.journal.specs.Head.{head_of};
 ghost use Rattle.journal.specs.File.{lines_of_file};
 ghost use Rattle.model.specs.declared.image.TheConstants.{MIN_LINES, MAX_LINES};
 ghost use Rattle.pmem_file.specs.Opening.{Step, AreReads, steps_of};
-ghost use Rattle.pmem_file.specs.Finding.{IsTold, IsPartOf, IsSeenWhere, part_behind};
+ghost use Rattle.pmem_file.specs.Finding.{IsMade, IsTold, IsPartOf, IsSeenWhere, part_behind};
 
 use crate::bytes::{decode, word_at};
 use crate::opening::Opening;
@@ -53,10 +53,10 @@ pub fn head_told(words: &[u64], image: u64, lines: u64) -> Option<Head>
     ensures image { IfSome result (λ head. head.shape.lines ≡ image) }
     ensures whole { IfSome result (λ head. lines_of_file head.shape ≡ lines) }
     ensures told { IfSome result (λ head. IsTold head.shape head.generation words.now) }
-    // a head is found, and so is what a crash may leave of the first one
+    // a head is found, and so is what a crash may leave of the first one, which is of the shape in which files are made
     ensures found { (head : Head) → words.now ≡ head_of head.shape head.generation → head.shape.lines ≡ image → lines_of_file head.shape ≡ lines
         → result ≡ Some head }
-    ensures first { (shape : Shape) → shape.lines ≡ image → lines_of_file shape ≡ lines → IsPartOf words.now (head_of shape 1) → IsSome result }
+    ensures first { (shape : Shape) → IsMade shape → shape.lines ≡ image → lines_of_file shape ≡ lines → IsPartOf words.now (head_of shape 1) → IsSome result }
 {
     if let Some(head) = whole_head(words, image, lines) {
         return Some(head);
@@ -92,18 +92,16 @@ fn head_that_fits(head: Head, image: u64, lines: u64) -> Option<Head>
     }
 }
 
-/// What comes before the first head, where a crash may leave this line of it.
+/// What comes before the first head, where a crash may leave this line of it, in a file as one is made. In no other: a superblock that tells of too many lines
+/// may have zeros behind them.
 fn first_head(words: &[u64], image: u64, lines: u64) -> Option<Head>
-    requires { image < lines }
     ensures image { IfSome result (λ head. head.shape.lines ≡ image) }
     ensures whole { IfSome result (λ head. lines_of_file head.shape ≡ lines) }
     ensures generation { IfSome result (λ head. head.generation ≡ 0) }
-    ensures found { (shape : Shape) → shape.lines ≡ image → lines_of_file shape ≡ lines → IsPartOf words.now (head_of shape 1) → IsSome result }
+    ensures made { IfSome result (λ head. IsMade head.shape) }
+    ensures found { (shape : Shape) → IsMade shape → shape.lines ≡ image → lines_of_file shape ≡ lines → IsPartOf words.now (head_of shape 1) → IsSome result }
 {
-    let shape = Shape {
-        lines: image,
-        part: (lines - image - 1) / 2,
-    };
+    let shape = Shape::of_image(image);
     let first = Head {
         shape,
         generation: 1,
