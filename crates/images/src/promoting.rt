@@ -33,8 +33,8 @@ const NEEDS_FENCE: &[u8] =
     b"promote needs --old-primary-stopped, your word that the old primary is stopped and is not started again\n";
 
 /// Makes the image of this name, which is a stopped standby's, a primary's of the next epoch, and says so. The operator states whether the old
-/// primary is stopped: where it is not, that is `NotFenced`, and the image is not even opened. A newcomer's is refused by `NotCopied` and stays as it is. An image below the position `at_least` is kept as it is, and
-/// so is one at position 0 where `is_asked` says so and the reader does not say `yes`.
+/// primary is stopped: where it is not, that is `NotFenced`, and the image is not even opened. A newcomer's is refused by `NotCopied` and stays as it is.
+/// An image below the position `at_least` is kept as it is, and so is one at position 0 where `is_asked` says so and the reader does not say `yes`.
 pub fn promote<I: Images, R: Read, W: Write, E: Write>(
     alloc: Global,
     images: &I,

@@ -1,5 +1,5 @@
 //! A standby that is made of its image.
-ghost use Rattle.std.specs.Prelude.{◌≡◌, ◌⊎◌, ℕ, false, IfOk, IfErr};
+ghost use Rattle.std.specs.Prelude.{◌≡◌, ◌⊎◌, ◌↔◌, ℕ, IsTrue, false, IfOk, IfErr};
 ghost use Rattle.kv_types.specs.declared.refusal.Refusal.TheVariants.{Fault, Memory, NotCopied, WrongRole};
 ghost use Rattle.model.specs.declared.layout.TheConstants.{LAYOUT};
 ghost use Rattle.model.specs.declared.record.Record.{Record as CommitRecord};
@@ -16,7 +16,7 @@ ghost use Rattle.wbl_engine.specs.Restarting.{IsReopened};
 
 use crate::standby::Standby;
 use kv_types::Refusal;
-use model::{LAYOUT, Layout};
+use model::{LAYOUT, Layout, Record};
 use mv_keyspace::Keyspace;
 use placing::{Rebuilt, rebuild};
 use pmem::Pmem;
@@ -61,10 +61,21 @@ fn refusal_of_role<P: Pmem>(alloc: Global, device: &P) -> Refusal
         → (r : CommitRecord) → IsUndamaged (P.state device.now).lines r (image_of (P.state device.now).words) → r.role ≡ role.Newcomer }
     ensures cause { (result ≡ NotCopied) ⊎ (result ≡ WrongRole) }
 {
-    match wbl_engine::inspect(alloc, device, LAYOUT) {
-        Ok((current, _)) if current.role == Role::Newcomer => Refusal::NotCopied,
-        _ => Refusal::WrongRole,
+    let Ok((current, _)) = wbl_engine::inspect(alloc, device, LAYOUT) else {
+        return Refusal::WrongRole;
+    };
+    if is_newcomer(&current) {
+        Refusal::NotCopied
+    } else {
+        Refusal::WrongRole
     }
+}
+
+/// Whether the record is a newcomer's.
+fn is_newcomer(current: &Record) -> bool
+    ensures { IsTrue result ↔ (current.now.role ≡ role.Newcomer) }
+{
+    current.role == Role::Newcomer
 }
 
 /// The keyspace of an image of this layout and `lines` lines, and its free room, made of the versions that were read of it.
