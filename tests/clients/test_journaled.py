@@ -91,24 +91,31 @@ class Cuts(PairCases):
         return before, changes, [sum(place <= count for place in places) for count in answered]
 
     def files_left(self, role):
-        """What cuts leave, with how many calls were answered by then at least."""
+        """What cuts leave, one after another, each with how many calls were answered by then at least."""
         before, changes, answered = self.counted(role)
         draws = random.Random(f"cuts of the {role}")
-        return [(sum(count <= number for count in answered), left) for number, left in after_cuts(before, changes, draws)]
+        for number, left in after_cuts(before, changes, draws):
+            yield sum(count <= number for count in answered), left
 
     def check(self, role):
         if not self.loaded:
             return
-        found, wrong, opened = self.files_left(role), [], random.Random(f"opened of the {role}")
-        self.assertGreater(len(found), CALLS)
-        for least, left in found:
+        found, wrong, opened, draws = 0, [], [], random.Random(f"opened of the {role}")
+        for least, left in self.files_left(role):
             record, held = read(left)
             if not least <= record.position <= CALLS or held != expected(record.position):
                 wrong.append((least, record.position, held))
+            found += 1
+            # (all at once would be half a gibibyte)
+            if len(opened) < OPENED:
+                opened.append(left)
+            elif (place := draws.randrange(found)) < OPENED:
+                opened[place] = left
+        self.assertGreater(found, CALLS)
         self.assertEqual(wrong, [])
-        for number, (_, left) in enumerate(opened.sample(found, OPENED)):
+        for number, left in enumerate(opened):
             with self.case("opened", number=number):
-                self.check_opening(role, left, opened, 2)
+                self.check_opening(role, left, draws, 2)
 
     def check_opening(self, role, left, draws, times):
         """The program tells what the model tells, and opens it to the same; so it does whatever a cut in that leaves, and once more in that."""
@@ -307,8 +314,10 @@ class Generations(PairCases):
                 with self.case("node", role=node.role):
                     changes = node.noting.changes()
                     (last,) = [at for at, change in enumerate(changes) if change and change[0] < 64 * LINES and change[1].endswith(b"v" + bytes(-(length + 5) % 64))]
-                    self.assertEqual((changes[last + 1], changes[last + 2][0], changes[last + 3]), (None, 64 * LINES, None))
-                    self.assertEqual(generation_of(node.image.read_bytes()), words_of(changes[last + 2][1])[1])
+                    # (of syncs with nothing between them the first)
+                    behind = [later for change, later in itertools.pairwise(changes[last:]) if change is not None or later is not None]
+                    self.assertEqual((behind[0], behind[1][0], behind[2]), (None, 64 * LINES, None))
+                    self.assertEqual(generation_of(node.image.read_bytes()), words_of(behind[1][1])[1])
 
 
 class Syncs(PairCases):

@@ -49,6 +49,8 @@ LIMITS = [
     ("machine", "KEPT_GROUPS", "promises replication simulator"),
     ("pipes", "MAX_SEATS", "README protocol promises refusals simulator crates/lobby crates/pipes"),
     ("pipes", "PIPE_ITEMS", "promises replication simulator crates/pipes"),
+    ("journal", "MAGIC", "image"),
+    ("journal", "MAX_PART_LINES", "image"),
     ("pmem_file", "LINES_A_WRITE", "crates/pmem_file"),
     ("simulator", "USUAL_LINES", "simulator"),
     ("simulator", "MOST_EVENTS", "simulator"),
