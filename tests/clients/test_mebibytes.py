@@ -306,7 +306,12 @@ def resident(node, name="VmRSS"):
 
 
 class Memory(Large):
-    """What such values cost. It catches a buffer that keeps the room of a long word, of a long frame or of a delta, and room for what did not come."""
+    """What such values cost over images without journals (with one all of the image is in memory, docs/performance.md). It catches a buffer that keeps the room
+    of a long word, of a long frame or of a delta, and room for what did not come."""
+
+    def start(self, lines):
+        self.nodes = self.pair(lines=lines, has_journal=False)
+        self.client = self.nodes.client()
 
     def both(self, name="VmRSS"):
         return [resident(node, name) for node in (self.nodes.primary, self.nodes.standby)]
