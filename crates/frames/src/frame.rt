@@ -1,29 +1,29 @@
-//! What the primary sends to the standby.
-use kv_types::Change;
-use std::alloc::AllocError;
+//! What one node sends to the other but acknowledgements.
+use crate::copy::{CopyEnd, CopyPart, CopyWanted};
+use crate::group_frame::GroupFrame;
 
-/// The changes of the list of calls between two positions, as the primary of an epoch sends them.
+/// A frame. A newcomer sends that it wants a copy, a primary all others.
 #[derive(Debug, Drop)]
-pub struct Frame {
-    pub epoch: u64,
-    /// The position before the changes.
-    pub before: u64,
-    /// The position after them.
-    pub after: u64,
-    pub changes: Vec<Change>,
+pub enum Frame {
+    Group(GroupFrame),
+    CopyWanted(CopyWanted),
+    CopyPart(CopyPart),
+    CopyEnd(CopyEnd),
 }
 
-impl Clone for Frame {
-    ghost use Rattle.frames.specs.Copy.{IsCopy};
+impl Frame {
+    ghost use Rattle.std.specs.Prelude.{◌≡◌};
+    ghost use Rattle.frames.specs.Epochs.{epoch_of};
 
-    ghost is_clone = { IsCopy };
-
-    fn clone(&self) -> Result<Frame, AllocError> {
-        Ok(Frame {
-            epoch: self.epoch,
-            before: self.before,
-            after: self.after,
-            changes: self.changes.clone()?,
-        })
+    /// The epoch of the primary that sends the frame, or that is to send the copy.
+    pub fn epoch(&self) -> u64
+        ensures { result ≡ epoch_of self.now }
+    {
+        match self {
+            Frame::Group(group) => group.epoch,
+            Frame::CopyWanted(wanted) => wanted.epoch,
+            Frame::CopyPart(part) => part.epoch,
+            Frame::CopyEnd(end) => end.epoch,
+        }
     }
 }

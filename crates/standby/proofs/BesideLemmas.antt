@@ -26,7 +26,7 @@ use Rattle.wbl_engine.proofs.FreeingLemmas.{ended_within}
 use Rattle.wbl_engine.proofs.InsideLemmas.{inside-from_keeps}
 use Rattle.wbl_engine.proofs.LawfulLemmas.{group_lawful, same_lawful}
 use Rattle.wbl_engine.proofs.WithoutLemmas.{consistent_without, was_there}
-use Rattle.frames.specs.declared.frame.Frame.{Frame}
+use Rattle.frames.specs.declared.group_frame.GroupFrame.{GroupFrame}
 use Rattle.standby.specs.Following.{AreGone, Follows, HasTaken, IsUnmovedOrWhole, IsWhole, TakesEpoch, WasLive, WouldExhaust}
 use Rattle.standby.proofs.FollowingLemmas.{Follows-after, Follows-same, HasTaken-group, IsGroup-part, IsWhole-group, not_exhausted}
 use Rattle.standby.proofs.FreedLemmas.{IsWhole-since, lawful_freed, none_left}
@@ -130,7 +130,7 @@ module _ (contents : Contents) (table : Table) (room : Room) (ended : List Entry
         Follows-same after new after_table room' part.ended.items same
         (Follows-given after after_table left part.ended.items Follows-beside ended extents comes_back_then room' gives)
 
-    module _ (frame : Frame) (same : map change_of part.changes.items ≡ frame.changes.items) (at : part.position ≡ frame.after) (own : group.epoch ≡ frame.epoch) where
+    module _ (frame : GroupFrame) (same : map change_of part.changes.items ≡ frame.changes.items) (at : part.position ≡ frame.after) (own : group.epoch ≡ frame.epoch) where
       pub HasTaken-beside : (new : Contents) (table' : Table) → Same after new → table' ≡ after_table → HasTaken frame contents new table table'
       HasTaken-beside new table' stays is =
           let taken : HasTaken frame left_over new table table' = HasTaken-group left_over table frame part same at group one own new table' stays is in

@@ -22,7 +22,7 @@ use Rattle.wbl_engine.specs.Freeing.{Clears, KeepsVersions, cleared_contents, re
 use Rattle.wbl_engine.specs.Lawful.{AreLawful}
 use Rattle.wbl_engine.proofs.LawfulLemmas.{lawful_from}
 use Rattle.wbl_engine.proofs.WithoutLemmas.{consistent_cleared, lawful_cleared}
-use Rattle.frames.specs.declared.frame.Frame.{Frame}
+use Rattle.frames.specs.declared.group_frame.GroupFrame.{GroupFrame}
 use Rattle.standby.specs.declared.standby.Standby.{Standby}
 use Rattle.standby.specs.Following.{Follows, HoldsRearranged, IsGapless, IsNearLimit, IsRearranged, WouldExhaust}
 use Rattle.standby.specs.Taking.{Rearranges, Stands, Tidies}
@@ -154,7 +154,7 @@ module _ {E K D : Type 0} (device : E → State) (contents : E → Contents) (is
   }
 
   -- what is ready for a frame may be tidied
-  pub Rearranges-tidied : (frame : Frame) (old new : Standby E K D) (result : Result Bool Refusal) → Tidies device contents is_faulted table old result new
+  pub Rearranges-tidied : (frame : GroupFrame) (old new : Standby E K D) (result : Result Bool Refusal) → Tidies device contents is_faulted table old result new
       → (¬ IsErrOf result Fault → ¬ WouldExhaust (contents new.engine).current frame) → Rearranges device contents is_faulted table frame old result new
   Rearranges-tidied frame old new result is counters = record {
     causes = is.causes;
@@ -264,7 +264,7 @@ module _ {E K D : Type 0} (device : E → State) (contents : E → Contents) (is
         ]
 
 -- one more record leaves the counters of a frame, where they are not near their limit
-pub not_exhausting : (r : Record) (frame : Frame) → ¬ IsNearLimit r → ¬ WouldExhaust r frame → ¬ WouldExhaust (record_after_clearing r) frame
+pub not_exhausting : (r : Record) (frame : GroupFrame) → ¬ IsNearLimit r → ¬ WouldExhaust r frame → ¬ WouldExhaust (record_after_clearing r) frame
 not_exhausting r frame far fits (inl stamps) = fits (inl stamps)
 not_exhausting r frame far fits (inr (inl position)) = fits (inr (inl position))
 not_exhausting r frame far fits (inr (inr (inl number))) = far (inr number)

@@ -32,7 +32,7 @@ use Rattle.placing.proofs.MemberLemmas.{listed-from_member}
 use Rattle.wbl_engine.specs.Contents.{Exhausts, Keeps, Same}
 use Rattle.wbl_engine.proofs.ApartLemmas.{group_apart}
 use Rattle.wbl_engine.proofs.LawfulLemmas.{group_lawful}
-use Rattle.frames.specs.declared.frame.Frame.{Frame}
+use Rattle.frames.specs.declared.group_frame.GroupFrame.{GroupFrame}
 use Rattle.standby.specs.Following.{Follows, HasTaken, IsUnmovedOrWhole, IsWhole, TakesEpoch, WouldExhaust}
 use Rattle.standby.proofs.EndedLemmas.{KeepsWithoutSome-none, Same-is}
 use Rattle.standby.proofs.PlacesTaken.{AreTaken}
@@ -161,7 +161,7 @@ Follows-same old new table room ended same follows = rw (Same-is old new same) f
 
 -- ---- the frame whole
 
-module _ (contents : Contents) (table : Table) (frame : Frame) (part : Part) (same : map change_of part.changes.items ≡ frame.changes.items) (at : part.position ≡ frame.after)
+module _ (contents : Contents) (table : Table) (frame : GroupFrame) (part : Part) (same : map change_of part.changes.items ≡ frame.changes.items) (at : part.position ≡ frame.after)
     (group : Group) (one : group.parts.items ≡ part ∷ []) (own : group.epoch ≡ frame.epoch) where
   position_after : (after_group contents group).current.position ≡ frame.after
   position_after = ap (last_position contents.current.position) one ∙ at

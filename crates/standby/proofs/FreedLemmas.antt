@@ -23,7 +23,7 @@ use Rattle.wbl_engine.proofs.InsideLemmas.{inside-from_keeps}
 use Rattle.wbl_engine.specs.Lawful.{AreLawful}
 use Rattle.wbl_engine.proofs.LawfulLemmas.{same_lawful}
 use Rattle.wbl_engine.proofs.WithoutLemmas.{IsMapOf-contents_without, consistent_without, lawful_without, was_there, AllEnded}
-use Rattle.frames.specs.declared.frame.Frame.{Frame}
+use Rattle.frames.specs.declared.group_frame.GroupFrame.{GroupFrame}
 use Rattle.standby.specs.Following.{Follows, IsUnmovedOrWhole, IsWhole}
 use Rattle.standby.proofs.EndedLemmas.{Same-is}
 use Rattle.placing.specs.Read.{LiesIn}
@@ -84,7 +84,7 @@ lawful_freed contents new ended are same lawful =
 
 -- ---- a frame between two freeings
 
-module _ (frame : Frame) (ended : List EntryNo) (before between : Contents) (table table' : Table) (are : AreEnded before ended) (freed : Same (after_free ended before) between) (same : table' ≡ table) where
+module _ (frame : GroupFrame) (ended : List EntryNo) (before between : Contents) (table table' : Table) (are : AreEnded before ended) (freed : Same (after_free ended before) between) (same : table' ≡ table) where
   pub IsWhole-since : (after : Contents) → IsWhole frame between table' after → IsWhole frame before table after
   IsWhole-since after whole =
       let lawful : AreLawful before → AreLawful after = λ lawful. whole.lawful (lawful_freed before between ended are freed lawful) in
@@ -109,7 +109,7 @@ module _ (frame : Frame) (ended : List EntryNo) (before between : Contents) (tab
       (LeavesOnly-weaken (IsUnmovedOrWhole frame ended before table) since committing)
 
 -- a frame that was taken whole, and some of what it ended is freed
-pub IsWhole-without : (frame : Frame) (before : Contents) (old table : Table) (after : Contents) (room : Room) (ended : List EntryNo) (gone : ℕ → Bool)
+pub IsWhole-without : (frame : GroupFrame) (before : Contents) (old table : Table) (after : Contents) (room : Room) (ended : List EntryNo) (gone : ℕ → Bool)
     → ((i : ℕ) → IsTrue (gone i) → IsTrue (is_listed i ended)) → Follows after table room ended → IsWhole frame before old after → IsWhole frame before old (without gone after)
 IsWhole-without frame before old table after room ended gone some follows whole =
     let ended_are : AllEnded gone after.versions = λ i is. (ended_within after ended i follows.listed (some i is)).1 in

@@ -1,3 +1,4 @@
+pub mod CopiesLemmas
 pub mod BesideLemmas
 pub mod EndedLemmas
 pub mod FollowingLemmas

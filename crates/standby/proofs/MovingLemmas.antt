@@ -16,7 +16,7 @@ use Rattle.wbl_engine.specs.Contents.{IsDurable, Keeps, Same}
 use Rattle.wbl_engine.specs.Relocating.{ExhaustsRelocation, IsRelocation, after_relocation, relocated_record}
 use Rattle.wbl_engine.proofs.LawfulLemmas.{same_lawful}
 use Rattle.wbl_engine.proofs.RelocatingLemmas.{relocated_consistent}
-use Rattle.frames.specs.declared.frame.Frame.{Frame}
+use Rattle.frames.specs.declared.group_frame.GroupFrame.{GroupFrame}
 use Rattle.standby.specs.declared.standby.Standby.{Standby}
 use Rattle.standby.specs.Following.{Follows, HasCountersFor, HoldsRearranged, IsGapless, IsRearranged, WouldExhaust}
 use Rattle.standby.specs.Moving.{AreGathered, IsAlike, ended_of}
@@ -39,7 +39,7 @@ same_rearranged a b same =
     IsRearranged-recorded a b (ap (λ (r : Record). r.position) same.current) (ap (λ (r : Record). r.epoch) same.current) (ap (λ (r : Record). r.role) same.current) (ap (λ (r : Record). r.layout) same.current)
     same.lines same.versions (same_lawful a b same)
 
-module _ {E K D : Type 0} (device : E → State) (contents : E → Contents) (is_faulted : E → Bool) (table : K → Table) (frame : Frame) (old : Standby E K D)
+module _ {E K D : Type 0} (device : E → State) (contents : E → Contents) (is_faulted : E → Bool) (table : K → Table) (frame : GroupFrame) (old : Standby E K D)
     (ready : IsReady device contents is_faulted table frame old) where
   -- memory was refused, and the heap has free what it had
   pub Rearranges-alike : (new : Standby E K D) → new.engine ≡ old.engine → table new.keyspace ≡ table old.keyspace → IsAlike old.heap new.heap → new.ended ≡ old.ended

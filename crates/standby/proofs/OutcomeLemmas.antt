@@ -6,13 +6,13 @@ use Rattle.pmem.specs.Device.{State}
 use Rattle.model.specs.Group.{Contents}
 use Rattle.mv_keyspace.specs.Table.{Table}
 use Rattle.frames.specs.declared.ack.Ack.{Ack}
-use Rattle.frames.specs.declared.frame.Frame.{Frame}
+use Rattle.frames.specs.declared.group_frame.GroupFrame.{GroupFrame}
 use Rattle.standby.specs.declared.standby.Standby.{Standby}
 use Rattle.standby.specs.Taking.{Stands, TakesFrame}
 
 module _ {E K D : Type 0} (device : E → State) (contents : E → Contents) (is_faulted : E → Bool) (table : K → Table) where
   -- unless a fence failed, it may take frames after each outcome
-  pub stands_after : (frame : Frame) (old : Standby E K D) (result : Result Ack Refusal) (new : Standby E K D) → Stands device contents is_faulted table old
+  pub stands_after : (frame : GroupFrame) (old : Standby E K D) (result : Result Ack Refusal) (new : Standby E K D) → Stands device contents is_faulted table old
       → TakesFrame device contents is_faulted table frame old result new → ¬ IsErrOf result Fault → Stands device contents is_faulted table new
   stands_after frame old result new stands (inl again) sound = subst (Stands device contents is_faulted table) (sym again.same) stands
   stands_after frame old result new stands (inr (inl whole)) sound = whole.stands

@@ -16,7 +16,7 @@ use Rattle.wbl_engine.specs.Freeing.{KeepsWithoutSome, after_free, without}
 use Rattle.wbl_engine.specs.Lawful.{AreLawful}
 use Rattle.wbl_engine.proofs.FreeingLemmas.{ended_within, freed_map}
 use Rattle.wbl_engine.proofs.WithoutLemmas.{IsMapOf-contents_without, consistent_without, lawful_without, was_there}
-use Rattle.frames.specs.declared.frame.Frame.{Frame}
+use Rattle.frames.specs.declared.group_frame.GroupFrame.{GroupFrame}
 use Rattle.standby.specs.Following.{HoldsRearranged, HoldsWhole, IsRearranged, IsWhole, Stood, WasLive}
 use Rattle.standby.proofs.FreedLemmas.{lawful_freed}
 
@@ -139,7 +139,7 @@ LeavesOnly-without a entries device device' ended run = LeavesOnly-weaken (Holds
 
 -- ---- a frame that was taken whole after it
 
-pub IsWhole-rearranged : (frame : Frame) (before between after : Contents) (old table : Table) → IsRearranged before between → records table ≡ records old → IsWhole frame between table after
+pub IsWhole-rearranged : (frame : GroupFrame) (before between after : Contents) (old table : Table) → IsRearranged before between → records table ≡ records old → IsWhole frame between table after
     → IsWhole frame before old after
 IsWhole-rearranged frame before between after old table first same whole = record {
   position = whole.position;
@@ -151,7 +151,7 @@ IsWhole-rearranged frame before between after old table first same whole = recor
   lawful = λ lawful. whole.lawful (first.lawful lawful);
 }
 
-pub HoldsWhole-rearranged : (frame : Frame) (before between : Contents) (old table : Table) (image : Image) → IsRearranged before between → records table ≡ records old
+pub HoldsWhole-rearranged : (frame : GroupFrame) (before between : Contents) (old table : Table) (image : Image) → IsRearranged before between → records table ≡ records old
     → HoldsWhole frame between table image → HoldsWhole frame before old image
 HoldsWhole-rearranged frame before between old table image first same holds =
     record { after = holds.after; whole = IsWhole-rearranged frame before between holds.after old table first same holds.whole; keeps = holds.keeps }

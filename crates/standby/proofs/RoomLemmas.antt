@@ -7,7 +7,7 @@ use Rattle.pmem.proofs.Leaving.{LeavesOnly-then, none_leaves}
 use Rattle.model.specs.Group.{Contents}
 use Rattle.mv_keyspace.specs.Table.{Table}
 use Rattle.wbl_engine.specs.Contents.{IsDurable}
-use Rattle.frames.specs.declared.frame.Frame.{Frame}
+use Rattle.frames.specs.declared.group_frame.GroupFrame.{GroupFrame}
 use Rattle.standby.specs.declared.standby.Standby.{Standby}
 use Rattle.standby.specs.Following.{Follows, HoldsRearranged, WouldExhaust}
 use Rattle.standby.specs.Taking.{Rearranges}
@@ -18,17 +18,17 @@ same_cause refusal cause is = cc
 
 module _ {E K D : Type 0} (device : E → State) (contents : E → Contents) (is_faulted : E → Bool) (table : K → Table) where
   -- nothing happened, or memory was refused before anything did
-  pub record IsReady (frame : Frame) (node : Standby E K D) : Type 0 where
+  pub record IsReady (frame : GroupFrame) (node : Standby E K D) : Type 0 where
     pub follows : Follows (contents node.engine) (table node.keyspace) node.heap []
     pub none : node.ended.items ≡ []
     pub sound : is_faulted node.engine ≡ false
     pub durable : IsDurable (device node.engine) (contents node.engine)
     pub counters : ¬ WouldExhaust (contents node.engine).current frame
 
-  ready_follows : (frame : Frame) (node : Standby E K D) → IsReady frame node → Follows (contents node.engine) (table node.keyspace) node.heap node.ended.items
+  ready_follows : (frame : GroupFrame) (node : Standby E K D) → IsReady frame node → Follows (contents node.engine) (table node.keyspace) node.heap node.ended.items
   ready_follows frame node ready = subst (Follows (contents node.engine) (table node.keyspace) node.heap) (sym ready.none) ready.follows
 
-  pub Rearranges-still : {X : Type 0} (frame : Frame) (node : Standby E K D) (done : X) → IsReady frame node → Rearranges device contents is_faulted table frame node (Ok done) node
+  pub Rearranges-still : {X : Type 0} (frame : GroupFrame) (node : Standby E K D) (done : X) → IsReady frame node → Rearranges device contents is_faulted table frame node (Ok done) node
   Rearranges-still frame node done ready = record {
     causes = tt;
     map = refl;
@@ -43,7 +43,7 @@ module _ {E K D : Type 0} (device : E → State) (contents : E → Contents) (is
     moments = none_leaves (device node.engine) (HoldsRearranged (contents node.engine)) (λ image is. HoldsRearranged-keeps (contents node.engine) image (ready.durable image is));
   }
 
-  pub Rearranges-refused : {X : Type 0} (frame : Frame) (node : Standby E K D) → IsReady frame node → Rearranges device contents is_faulted table {X = X} frame node (Err Memory) node
+  pub Rearranges-refused : {X : Type 0} (frame : GroupFrame) (node : Standby E K D) → IsReady frame node → Rearranges device contents is_faulted table {X = X} frame node (Err Memory) node
   Rearranges-refused frame node ready = record {
     causes = inl refl;
     map = refl;
@@ -59,7 +59,7 @@ module _ {E K D : Type 0} (device : E → State) (contents : E → Contents) (is
   }
 
   -- it is ready for the next step
-  pub IsReady-then : {X : Type 0} (frame : Frame) (old mid : Standby E K D) (done : X) → Rearranges device contents is_faulted table frame old (Ok done) mid → IsReady frame mid
+  pub IsReady-then : {X : Type 0} (frame : GroupFrame) (old mid : Standby E K D) (done : X) → Rearranges device contents is_faulted table frame old (Ok done) mid → IsReady frame mid
   IsReady-then frame old mid done first = record {
     follows = subst (Follows (contents mid.engine) (table mid.keyspace) mid.heap) first.none (first.still (λ is. cc));
     none = first.none;
@@ -69,7 +69,7 @@ module _ {E K D : Type 0} (device : E → State) (contents : E → Contents) (is
   }
 
   -- one step after another
-  pub Rearranges-then : {X Y : Type 0} (frame : Frame) (old mid new : Standby E K D) (done : X) (result : Result Y Refusal) → Rearranges device contents is_faulted table frame old (Ok done) mid
+  pub Rearranges-then : {X Y : Type 0} (frame : GroupFrame) (old mid new : Standby E K D) (done : X) (result : Result Y Refusal) → Rearranges device contents is_faulted table frame old (Ok done) mid
       → Rearranges device contents is_faulted table frame mid result new → Rearranges device contents is_faulted table frame old result new
   Rearranges-then frame old mid new done result first second =
       let before = (first.sound (λ is. cc)).1 in
@@ -90,7 +90,7 @@ module _ {E K D : Type 0} (device : E → State) (contents : E → Contents) (is
       }
 
   -- the same refusal of another call
-  pub Rearranges-passed : {X Y : Type 0} (frame : Frame) (old new : Standby E K D) (refusal : Refusal) → Rearranges device contents is_faulted table {X = X} frame old (Err refusal) new
+  pub Rearranges-passed : {X Y : Type 0} (frame : GroupFrame) (old new : Standby E K D) (refusal : Refusal) → Rearranges device contents is_faulted table {X = X} frame old (Err refusal) new
       → Rearranges device contents is_faulted table {X = Y} frame old (Err refusal) new
   Rearranges-passed {X = X} {Y = Y} frame old new refusal is =
       let other : IsErrOf {T = Y} (Err refusal) Fault → IsErrOf {T = X} (Err refusal) Fault = λ fault. ap Err (same_cause {T = Y} refusal Fault fault) in
@@ -109,7 +109,7 @@ module _ {E K D : Type 0} (device : E → State) (contents : E → Contents) (is
       }
 
   -- the same with another answer
-  pub Rearranges-done : {X Y : Type 0} (frame : Frame) (old new : Standby E K D) (x : X) (y : Y) → Rearranges device contents is_faulted table frame old (Ok x) new
+  pub Rearranges-done : {X Y : Type 0} (frame : GroupFrame) (old new : Standby E K D) (x : X) (y : Y) → Rearranges device contents is_faulted table frame old (Ok x) new
       → Rearranges device contents is_faulted table frame old (Ok y) new
   Rearranges-done frame old new x y is = record {
     causes = tt;
@@ -126,7 +126,7 @@ module _ {E K D : Type 0} (device : E → State) (contents : E → Contents) (is
   }
 
   -- and then it is asked whether the frame fits
-  pub Rearranges-asked : (frame : Frame) (old new asked : Standby E K D) (result : Result Bool Refusal) → Rearranges device contents is_faulted table {X = Unit {0}} frame old (Ok tt) new → asked ≡ new
+  pub Rearranges-asked : (frame : GroupFrame) (old new asked : Standby E K D) (result : Result Bool Refusal) → Rearranges device contents is_faulted table {X = Unit {0}} frame old (Ok tt) new → asked ≡ new
       → OnErr result (result ≡ Err Memory) → Rearranges device contents is_faulted table frame old result asked
   Rearranges-asked frame old new asked (Ok fits) so_far same told = rw same (Rearranges-done frame old new tt fits so_far)
   Rearranges-asked frame old new asked (Err refusal) so_far same told =

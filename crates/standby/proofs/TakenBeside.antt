@@ -11,7 +11,7 @@ use Rattle.wbl_engine.specs.Contents.{IsDurable, Same}
 use Rattle.wbl_engine.specs.Freeing.{KeepsWithoutSome, after_free}
 use Rattle.wbl_engine.specs.Lawful.{AreLawful}
 use Rattle.frames.specs.declared.ack.Ack.{Ack}
-use Rattle.frames.specs.declared.frame.Frame.{Frame}
+use Rattle.frames.specs.declared.group_frame.GroupFrame.{GroupFrame}
 use Rattle.standby.specs.declared.standby.Standby.{Standby}
 use Rattle.standby.specs.Following.{AreGone, Follows, HasTaken, IsBeforeOrWhole, IsUnmovedOrWhole}
 use Rattle.standby.specs.Taking.{IsDue, Stands, TakesFrame}
@@ -20,7 +20,7 @@ use Rattle.standby.proofs.RearrangedLemmas.{HoldsRearranged-without, IsRearrange
 
 module _ {E K D : Type 0} (device : E → State) (contents : E → Contents) (is_faulted : E → Bool) (table : K → Table) where
   -- what making the changes of a frame beside what had ended comes to
-  pub record CommitsBeside (frame : Frame) (old : Standby E K D) (result : Result (Unit {0}) Refusal) (new : Standby E K D) : Type 0 where
+  pub record CommitsBeside (frame : GroupFrame) (old : Standby E K D) (result : Result (Unit {0}) Refusal) (new : Standby E K D) : Type 0 where
     pub taken : OnOk result (HasTaken frame (contents old.engine) (contents new.engine) (table old.keyspace) (table new.keyspace))
     pub gone : OnOk result (AreGone frame.after (contents old.engine).versions (contents new.engine).versions)
     pub causes : IfErr result (λ refusal. (refusal ≡ Memory) ⊎ (refusal ≡ Fault))
@@ -34,7 +34,7 @@ module _ {E K D : Type 0} (device : E → State) (contents : E → Contents) (is
     pub asked_moment : (device new.engine).kept ≡ (device old.engine).kept
     pub moments : LeavesOnly (device old.engine) (device new.engine) (IsUnmovedOrWhole frame old.ended.items (contents old.engine) (table old.keyspace))
 
-  module _ (frame : Frame) (old : Standby E K D) (stands : Stands device contents is_faulted table old) (due : IsDue (contents old.engine).current frame) where
+  module _ (frame : GroupFrame) (old : Standby E K D) (stands : Stands device contents is_faulted table old) (due : IsDue (contents old.engine).current frame) where
     -- nothing is stored
     still_there : LeavesOnly (device old.engine) (device old.engine) (KeepsWithoutSome old.ended.items (contents old.engine))
     still_there = none_leaves (device old.engine) _ (λ image is. KeepsWithoutSome-none old.ended.items (contents old.engine) image (stands.durable image is))

@@ -16,7 +16,7 @@ use Rattle.wbl_engine.specs.Contents.{IsDurable, Same}
 use Rattle.wbl_engine.specs.Lawful.{AreLawful}
 use Rattle.wbl_engine.proofs.WithoutLemmas.{was_there}
 use Rattle.frames.specs.declared.ack.Ack.{Ack}
-use Rattle.frames.specs.declared.frame.Frame.{Frame}
+use Rattle.frames.specs.declared.group_frame.GroupFrame.{GroupFrame}
 use Rattle.standby.specs.declared.standby.Standby.{Standby}
 use Rattle.standby.specs.Following.{AreGone, Follows, HasFreed, HasRoomOnceFreed, HasTaken, HoldsRearranged, HoldsWhole, IsBeforeOrWhole, IsRearranged, IsUnmovedOrWhole, IsWhole, NoGapIsLeft}
 use Rattle.standby.specs.Spare.{HasRoomAtOnce}
@@ -42,7 +42,7 @@ module _ {E K D : Type 0} (device : E → State) (contents : E → Contents) (is
     pub moments : LeavesOnly (device old.engine) (device new.engine) (KeepsWithoutSome old.ended.items (contents old.engine))
 
   -- what making the changes of a frame comes to, where nothing that has ended is left
-  pub record Commits (frame : Frame) (old : Standby E K D) (result : Result (Unit {0}) Refusal) (new : Standby E K D) : Type 0 where
+  pub record Commits (frame : GroupFrame) (old : Standby E K D) (result : Result (Unit {0}) Refusal) (new : Standby E K D) : Type 0 where
     pub taken : OnOk result (HasTaken frame (contents old.engine) (contents new.engine) (table old.keyspace) (table new.keyspace))
     pub gone : OnOk result (AreGone frame.after (contents old.engine).versions (contents new.engine).versions)
     pub fits : OnOk result (HasRoomFor old.heap frame.changes.items)
@@ -59,18 +59,18 @@ module _ {E K D : Type 0} (device : E → State) (contents : E → Contents) (is
     pub moments : LeavesOnly (device old.engine) (device new.engine) (IsUnmovedOrWhole frame [] (contents old.engine) (table old.keyspace))
 
   -- what making room for a frame comes to
-  pub record MakesRoom (frame : Frame) (old : Standby E K D) (result : Result (Unit {0}) Refusal) (new : Standby E K D) : Type 0 where
+  pub record MakesRoom (frame : GroupFrame) (old : Standby E K D) (result : Result (Unit {0}) Refusal) (new : Standby E K D) : Type 0 where
     pub rearranges : Rearranges device contents is_faulted table frame old result new
     pub unmoved : HasRoomAtOnce (contents old.engine).lines old.heap frame → new ≡ old
     pub done : OnOk result (HasRoomFor new.heap frame.changes.items ⊎ NoGapIsLeft (contents new.engine).current new.heap frame)
 
   -- a frame that cannot be taken
-  pub TakesFrame-cannot : (frame : Frame) (old : Standby E K D) (refusal : Refusal) → CannotTake (contents old.engine).current frame refusal
+  pub TakesFrame-cannot : (frame : GroupFrame) (old : Standby E K D) (refusal : Refusal) → CannotTake (contents old.engine).current frame refusal
       → TakesFrame device contents is_faulted table frame old (Err refusal) old
   TakesFrame-cannot frame old refusal cause = inr (inr (record { refusal = refusal; answer = refl; state = inl (record { cause = cause; same = refl }) }))
 
   -- a frame that is due
-  module _ (frame : Frame) (old : Standby E K D) (stands : Stands device contents is_faulted table old) (due : IsDue (contents old.engine).current frame) where
+  module _ (frame : GroupFrame) (old : Standby E K D) (stands : Stands device contents is_faulted table old) (due : IsDue (contents old.engine).current frame) where
     abbrev Rests : Standby E K D → Type 0
     Rests new = LeavesOnly (device old.engine) (device new.engine) (HoldsRearranged (contents old.engine))
 
@@ -329,7 +329,7 @@ module _ {E K D : Type 0} (device : E → State) (contents : E → Contents) (is
             }))
 
   -- a frame that moved the standby, and what it ended freed
-  module _ (frame : Frame) (old mid new : Standby E K D) (ack : Ack) (took : TakesWhole device contents is_faulted table frame old (Ok ack) mid) where
+  module _ (frame : GroupFrame) (old mid new : Standby E K D) (ack : Ack) (took : TakesWhole device contents is_faulted table frame old (Ok ack) mid) where
     -- the engine held the whole frame
     whole : IsWhole frame (contents old.engine) (table old.keyspace) (contents mid.engine)
     whole =
@@ -414,7 +414,7 @@ module _ {E K D : Type 0} (device : E → State) (contents : E → Contents) (is
           unmoved = unmoved_moments (Ok done) frees;
         }
 
-  module _ (frame : Frame) (old mid new : Standby E K D) (ack : Ack) (taken : TakesFrame device contents is_faulted table frame old (Ok ack) mid)
+  module _ (frame : GroupFrame) (old mid new : Standby E K D) (ack : Ack) (taken : TakesFrame device contents is_faulted table frame old (Ok ack) mid)
       (moved : ack.position ≢ (contents old.engine).current.position) where
     same_ack : (told : Ack) → ◌≡◌ {A = Result Ack Refusal} (Ok ack) (Ok told) → ack ≡ told
     same_ack told is = cc

@@ -15,7 +15,7 @@ use Rattle.placing.specs.Left.{IsLeftOf}
 use Rattle.wbl_engine.specs.Contents.{Keeps, Same}
 use Rattle.wbl_engine.specs.Freeing.{AreEnded, KeepsWithoutSome, after_free, extents_of, is_listed}
 use Rattle.wbl_engine.specs.Lawful.{AreLawful}
-use Rattle.frames.specs.declared.frame.Frame.{Frame}
+use Rattle.frames.specs.declared.group_frame.GroupFrame.{GroupFrame}
 use Rattle.standby.specs.Spare.{HasRoomAtOnce}
 
 -- ---- the invariant
@@ -47,22 +47,22 @@ abbrev pub TakesEpoch : Record → ℕ → Type 0
 TakesEpoch current epoch = (epoch ≡ current.epoch) ⊎ ((current.position ≡ 0) × (current.epoch < epoch))
 
 -- the node holds the frame already: it is of its own epoch, and ends at its position or below it
-pub record IsHeld (current : Record) (frame : Frame) : Type 0 where
+pub record IsHeld (current : Record) (frame : GroupFrame) : Type 0 where
   pub own : frame.epoch ≡ current.epoch
   pub below : frame.after ≤ current.position
 
 -- the frame is the one that comes next at this position
-pub record IsNext (position : ℕ) (frame : Frame) : Type 0 where
+pub record IsNext (position : ℕ) (frame : GroupFrame) : Type 0 where
   pub later : position < frame.after
   pub joined : frame.before ≡ position
 
 -- the frame is the one that a node with this record takes
-pub record IsTakenNext (current : Record) (frame : Frame) : Type 0 where
+pub record IsTakenNext (current : Record) (frame : GroupFrame) : Type 0 where
   pub epoch : TakesEpoch current frame.epoch
   pub next : IsNext current.position frame
 
 -- the node has taken the frame whole, and its epoch
-pub record HasTaken (frame : Frame) (before after : Contents) (old new : Table) : Type 0 where
+pub record HasTaken (frame : GroupFrame) (before after : Contents) (old new : Table) : Type 0 where
   pub position : after.current.position ≡ frame.after
   pub keyspace : records new ≡ play_all (records old) frame.changes.items
   pub lines : after.lines ≡ before.lines
@@ -85,13 +85,13 @@ AreGone position old new =
     (i : ℕ) (version : Version) → new i ≡ Some version → version.is_ended ≡ true → (version.position ≡ position) ⊎ WasLive old version
 
 -- the heap has room for the puts of the frame with nothing moved, once what has ended is freed
-abbrev pub HasRoomOnceFreed : Room → List EntryNo → Contents → Frame → Type 0
+abbrev pub HasRoomOnceFreed : Room → List EntryNo → Contents → GroupFrame → Type 0
 HasRoomOnceFreed room ended contents frame =
     (freed : Room) → GivesAll room ended (extents_of contents.versions ended) freed → HasRoomAtOnce contents.lines freed frame
 
 -- After this record, a commit of the frame would bring the limit of the stamps, the position, the number of the record, or an epoch that
 -- rises to the limit of counters; or the record is a newcomer's, which takes no frame.
-abbrev pub WouldExhaust : Record → Frame → Type 0
+abbrev pub WouldExhaust : Record → GroupFrame → Type 0
 WouldExhaust current frame =
     (COUNTER_LIMIT ≤ current.cp + 1 + 1 + STAMP_WINDOW)
     ⊎ (COUNTER_LIMIT ≤ frame.after)
@@ -144,13 +144,13 @@ abbrev pub IsGapless : Record → Type 0
 IsGapless current = (current.gaps.items ≡ []) ⊎ IsNearLimit current
 
 -- No gap is left; or the heap has so many entries and runs that the frame fits whatever the order of its puts.
-abbrev pub NoGapIsLeft : Record → Room → Frame → Type 0
+abbrev pub NoGapIsLeft : Record → Room → GroupFrame → Type 0
 NoGapIsLeft current room frame = IsGapless current ⊎ (fits_surely room frame.changes.items ≡ true)
 
 -- ---- a frame that was taken, or not
 
 -- The contents of a node that has taken the frame whole, and its epoch. They obey the rules of an image if those before did.
-pub record IsWhole (frame : Frame) (before : Contents) (table : Table) (after : Contents) : Type 0 where
+pub record IsWhole (frame : GroupFrame) (before : Contents) (table : Table) (after : Contents) : Type 0 where
   pub position : after.current.position ≡ frame.after
   pub line_count : after.lines ≡ before.lines
   pub role : after.current.role ≡ before.current.role
@@ -160,19 +160,19 @@ pub record IsWhole (frame : Frame) (before : Contents) (table : Table) (after : 
   pub lawful : AreLawful before → AreLawful after
 
 -- the image holds all of the frame
-pub record HoldsWhole (frame : Frame) (before : Contents) (table : Table) (image : Image) : Type 0 where
+pub record HoldsWhole (frame : GroupFrame) (before : Contents) (table : Table) (image : Image) : Type 0 where
   pub after : Contents
   pub whole : IsWhole frame before table after
   pub keeps : Keeps after image
 
 -- The image holds what it held before the frame, perhaps rearranged, or all of the frame.
-abbrev pub IsBeforeOrWhole : Frame → Contents → Table → Image → Type 0
+abbrev pub IsBeforeOrWhole : GroupFrame → Contents → Table → Image → Type 0
 IsBeforeOrWhole frame before table image = HoldsRearranged before image ⊎ HoldsWhole frame before table image
 
 -- The image holds what it held before the frame, each version in its place, perhaps without some of what had ended; or all of the frame.
-abbrev pub IsUnmovedOrWhole : Frame → List EntryNo → Contents → Table → Image → Type 0
+abbrev pub IsUnmovedOrWhole : GroupFrame → List EntryNo → Contents → Table → Image → Type 0
 IsUnmovedOrWhole frame ended before table image = KeepsWithoutSome ended before image ⊎ HoldsWhole frame before table image
 
 -- What is held after a frame that was not acknowledged: what was held before it, perhaps rearranged, or the whole frame.
-abbrev pub EndsAs : Frame → Contents → Table → Contents → Type 0
+abbrev pub EndsAs : GroupFrame → Contents → Table → Contents → Type 0
 EndsAs frame before table new = IsRearranged before new ⊎ IsWhole frame before table new

@@ -4,7 +4,7 @@ use Rattle.std.specs.Prelude.{ℕ, ◌-◌}
 use Rattle.extent_heap.specs.Room.{IsFreeRun, Room}
 use Rattle.placing.specs.Below.{HasRoomBelow}
 use Rattle.placing.specs.Place.{HasRoomFor}
-use Rattle.frames.specs.declared.frame.Frame.{Frame}
+use Rattle.frames.specs.declared.group_frame.GroupFrame.{GroupFrame}
 use Rattle.standby.specs.declared.spare.TheConstants.{SPARE_LINES}
 
 -- its first line in an image of so many lines
@@ -17,6 +17,6 @@ IsSpareFree lines room = IsFreeRun room (spare_line lines) SPARE_LINES
 
 -- The heap of an image of so many lines has room for the puts of the frame with nothing moved: below the spare place where that is free, and anywhere where
 -- it is in use.
-pub record HasRoomAtOnce (lines : ℕ) (room : Room) (frame : Frame) : Type 0 where
+pub record HasRoomAtOnce (lines : ℕ) (room : Room) (frame : GroupFrame) : Type 0 where
   pub fits : HasRoomFor room frame.changes.items
   pub below : IsSpareFree lines room → HasRoomBelow room frame.changes.items (spare_line lines)

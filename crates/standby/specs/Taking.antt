@@ -12,17 +12,17 @@ use Rattle.wbl_engine.specs.Contents.{IsDurable}
 use Rattle.wbl_engine.specs.Freeing.{KeepsWithoutSome, after_free, record_after_clearing}
 use Rattle.wbl_engine.specs.Lawful.{AreLawful}
 use Rattle.frames.specs.declared.ack.Ack.{Ack}
-use Rattle.frames.specs.declared.frame.Frame.{Frame}
+use Rattle.frames.specs.declared.group_frame.GroupFrame.{GroupFrame}
 use Rattle.standby.specs.declared.standby.Standby.{Standby}
 use Rattle.standby.specs.Following.{Follows, TakesEpoch, IsHeld, IsNext, IsTakenNext, HasTaken, AreGone, HasRoomOnceFreed, HoldsRearranged, IsGapless, IsRearranged, NoGapIsLeft, WouldExhaust, IsBeforeOrWhole, IsUnmovedOrWhole, EndsAs}
 
 -- The frame is the one that a node with this record takes, and its commit brings no counter to the limit.
-pub record IsDue (current : Record) (frame : Frame) : Type 0 where
+pub record IsDue (current : Record) (frame : GroupFrame) : Type 0 where
   pub next : IsTakenNext current frame
   pub counters : ¬ WouldExhaust current frame
 
 -- why a node with this record cannot take the frame, whatever room it has
-abbrev pub CannotTake : Record → Frame → Refusal → Type 0
+abbrev pub CannotTake : Record → GroupFrame → Refusal → Type 0
 CannotTake current frame refusal =
     ((refusal ≡ WrongEpoch) × ¬ TakesEpoch current frame.epoch)
     ⊎ ((refusal ≡ PositionGap) × TakesEpoch current frame.epoch × ¬ IsHeld current frame × ¬ IsNext current.position frame)
@@ -36,13 +36,13 @@ module _ {E K D : Type 0} (device : E → State) (contents : E → Contents) (is
     pub durable : IsDurable (device node.engine) (contents node.engine)
 
   -- The standby held the frame already. It is acknowledged again, and nothing changed.
-  pub record AcknowledgesAgain (frame : Frame) (old : Standby E K D) (result : Result Ack Refusal) (new : Standby E K D) : Type 0 where
+  pub record AcknowledgesAgain (frame : GroupFrame) (old : Standby E K D) (result : Result Ack Refusal) (new : Standby E K D) : Type 0 where
     pub held : IsHeld (contents old.engine).current frame
     pub answer : result ≡ Ok (record { epoch = (contents old.engine).current.epoch; position = (contents old.engine).current.position })
     pub same : new ≡ old
 
   -- The frame came next, and is taken whole: it is durable, and acknowledged. Nothing is left of what had ended before it.
-  pub record TakesWhole (frame : Frame) (old : Standby E K D) (result : Result Ack Refusal) (new : Standby E K D) : Type 0 where
+  pub record TakesWhole (frame : GroupFrame) (old : Standby E K D) (result : Result Ack Refusal) (new : Standby E K D) : Type 0 where
     pub due : IsDue (contents old.engine).current frame
     pub answer : result ≡ Ok (record { epoch = frame.epoch; position = frame.after })
     pub taken : HasTaken frame (contents old.engine) (contents new.engine) (table old.keyspace) (table new.keyspace)
@@ -57,19 +57,19 @@ module _ {E K D : Type 0} (device : E → State) (contents : E → Contents) (is
         → LeavesOnly (device old.engine) (device new.engine) (IsUnmovedOrWhole frame old.ended.items (contents old.engine) (table old.keyspace))
 
   -- The frame cannot be taken, and nothing changed.
-  pub record RefusesAtOnce (frame : Frame) (old : Standby E K D) (refusal : Refusal) (new : Standby E K D) : Type 0 where
+  pub record RefusesAtOnce (frame : GroupFrame) (old : Standby E K D) (refusal : Refusal) (new : Standby E K D) : Type 0 where
     pub cause : CannotTake (contents old.engine).current frame refusal
     pub same : new ≡ old
 
   -- There is no room for the frame: there was none with nothing moved, and now that all is freed and no gap is left its puts find no place in the heap.
-  pub record IsFull (frame : Frame) (old new : Standby E K D) : Type 0 where
+  pub record IsFull (frame : GroupFrame) (old new : Standby E K D) : Type 0 where
     pub none_at_once : ¬ HasRoomOnceFreed old.heap old.ended.items (contents old.engine) frame
     pub freed : new.ended.items ≡ []
     pub gaps : NoGapIsLeft (contents new.engine).current new.heap frame
     pub room : ¬ HasRoomFor new.heap frame.changes.items
 
   -- There was no room or no memory for the frame that came next. The same map stands, perhaps rearranged, and the standby may take frames.
-  pub record LeavesOut (frame : Frame) (old : Standby E K D) (refusal : Refusal) (new : Standby E K D) : Type 0 where
+  pub record LeavesOut (frame : GroupFrame) (old : Standby E K D) (refusal : Refusal) (new : Standby E K D) : Type 0 where
     pub due : IsDue (contents old.engine).current frame
     pub cause : ((refusal ≡ Full) × IsFull frame old new) ⊎ (refusal ≡ Memory)
     pub map : records (table new.keyspace) ≡ records (table old.keyspace)
@@ -83,7 +83,7 @@ module _ {E K D : Type 0} (device : E → State) (contents : E → Contents) (is
         → LeavesOnly (device old.engine) (device new.engine) (KeepsWithoutSome old.ended.items (contents old.engine))
 
   -- A fence failed while the frame was taken. The engine holds the map from before or the whole frame, and the image has to be opened again.
-  pub record BreaksOff (frame : Frame) (old : Standby E K D) (refusal : Refusal) (new : Standby E K D) : Type 0 where
+  pub record BreaksOff (frame : GroupFrame) (old : Standby E K D) (refusal : Refusal) (new : Standby E K D) : Type 0 where
     pub due : IsDue (contents old.engine).current frame
     pub cause : refusal ≡ Fault
     pub faulted : is_faulted new.engine ≡ true
@@ -96,17 +96,17 @@ module _ {E K D : Type 0} (device : E → State) (contents : E → Contents) (is
         → LeavesOnly (device old.engine) (device new.engine) (IsUnmovedOrWhole frame old.ended.items (contents old.engine) (table old.keyspace))
 
   -- The frame is refused, and so the standby is then.
-  pub record Refuses (frame : Frame) (old : Standby E K D) (result : Result Ack Refusal) (new : Standby E K D) : Type 0 where
+  pub record Refuses (frame : GroupFrame) (old : Standby E K D) (result : Result Ack Refusal) (new : Standby E K D) : Type 0 where
     pub refusal : Refusal
     pub answer : result ≡ Err refusal
     pub state : RefusesAtOnce frame old refusal new ⊎ LeavesOut frame old refusal new ⊎ BreaksOff frame old refusal new
 
   -- A frame is acknowledged again, taken whole or refused.
-  abbrev pub TakesFrame : Frame → Standby E K D → Result Ack Refusal → Standby E K D → Type 0
+  abbrev pub TakesFrame : GroupFrame → Standby E K D → Result Ack Refusal → Standby E K D → Type 0
   TakesFrame frame old result new = AcknowledgesAgain frame old result new ⊎ TakesWhole frame old result new ⊎ Refuses frame old result new
 
   -- Room was made for a frame: the same map stands, and the counters still allow the frame to be committed.
-  pub record Rearranges {X : Type 0} (frame : Frame) (old : Standby E K D) (result : Result X Refusal) (new : Standby E K D) : Type 0 where
+  pub record Rearranges {X : Type 0} (frame : GroupFrame) (old : Standby E K D) (result : Result X Refusal) (new : Standby E K D) : Type 0 where
     pub causes : IfErr result (λ refusal. (refusal ≡ Memory) ⊎ (refusal ≡ Fault))
     pub map : records (table new.keyspace) ≡ records (table old.keyspace)
     pub rearranged : IsRearranged (contents old.engine) (contents new.engine)

@@ -12,7 +12,7 @@ ghost use Rattle.standby.specs.Taking.{IsDue, Stands, TakesFrame};
 use crate::part::make_part;
 use crate::spare::spare_line;
 use crate::standby::Standby;
-use frames::{Ack, Frame};
+use frames::{Ack, GroupFrame};
 use kv_types::Refusal;
 use model::Group;
 use mv_keyspace::Keyspace;
@@ -26,7 +26,7 @@ impl<E: Durable, K: Keyspace> Standby<E, K> {
     /// # Errors
     ///
     /// Only `Memory`.
-    pub(crate) fn has_room_beside(&mut self, alloc: Global, frame: &Frame) -> Result<bool, Refusal>
+    pub(crate) fn has_room_beside(&mut self, alloc: Global, frame: &GroupFrame) -> Result<bool, Refusal>
         ensures fits { result ≡ Ok true → HasRoomFor self.old.heap frame.now.changes.items }
         ensures same { self.new ≡ self.old }
         ensures cause { OnErr result (result ≡ Err Refusal.Memory) }
@@ -46,7 +46,7 @@ impl<E: Durable, K: Keyspace> Standby<E, K> {
     /// # Errors
     ///
     /// `Memory` and `Fault`, as at `take_frame`.
-    pub(crate) fn take_beside(&mut self, alloc: Global, frame: Frame) -> Result<Ack, Refusal>
+    pub(crate) fn take_beside(&mut self, alloc: Global, frame: GroupFrame) -> Result<Ack, Refusal>
         requires stands { Stands E.device E.contents E.is_faulted K.table self.old }
         requires due { IsDue (E.contents self.old.engine).current frame }
         requires fits { HasRoomFor self.old.heap frame.changes.items }
@@ -59,7 +59,7 @@ impl<E: Durable, K: Keyspace> Standby<E, K> {
     /// Makes the frame's changes and commits them, as one part, in places beside those of what had ended; frees that by the same fences, gives its places
     /// back to the heap, and lists what the frame ended. Where memory is refused, nothing changed. After `Fault` the keyspace and the heap are ahead of
     /// the engine.
-    fn commit_beside(&mut self, alloc: Global, frame: Frame) -> Result<(), Refusal>
+    fn commit_beside(&mut self, alloc: Global, frame: GroupFrame) -> Result<(), Refusal>
         requires follows { Follows (E.contents self.old.engine) (K.table self.old.keyspace) self.old.heap self.old.ended.items }
         requires sound { E.is_faulted self.old.engine ≡ false }
         requires durable { IsDurable (E.device self.old.engine) (E.contents self.old.engine) }

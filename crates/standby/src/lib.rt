@@ -2,17 +2,21 @@
 #![tactic(auto)]
 
 mod beside;
+mod copies;
 mod idle;
 mod moving;
 mod opening;
 mod part;
 mod planning;
 mod restarting;
+mod rising;
 mod room;
 mod spare;
 mod standby;
 mod taking;
 
+pub use copies::{EndStep, Half, PartStep, end_step, part_step};
 pub use opening::open;
+pub use rising::are_rising;
 pub use spare::SPARE_LINES;
 pub use standby::Standby;

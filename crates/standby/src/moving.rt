@@ -11,7 +11,7 @@ ghost use Rattle.standby.specs.Taking.{Rearranges};
 use crate::room::moves_left;
 use crate::standby::Standby;
 use extent_heap::ExtentHeap;
-use frames::Frame;
+use frames::GroupFrame;
 use heap_layout::lines_for;
 use kv_types::{EntryNo, Extent, RecordId, Refusal};
 use model::{Part, PlacedChange, Put};
@@ -67,7 +67,7 @@ impl<E: Durable, K: Keyspace> Standby<E, K> {
     pub(crate) fn move_some(
         &mut self,
         alloc: Global,
-        frame: &Frame,
+        frame: &GroupFrame,
         rows: &[Row],
         moves: &[Move],
     ) -> Result<usize, Refusal>

@@ -5,7 +5,7 @@ ghost use Rattle.placing.specs.Performs.{Performs};
 ghost use Rattle.placing.specs.Place.{HasRoomFor};
 
 use extent_heap::ExtentHeap;
-use frames::Frame;
+use frames::GroupFrame;
 use kv_types::Refusal;
 use model::Part;
 use mv_keyspace::Keyspace;
@@ -18,7 +18,7 @@ pub(crate) fn make_part<K: Keyspace>(
     alloc: Global,
     keyspace: &mut K,
     heap: &mut ExtentHeap,
-    frame: Frame,
+    frame: GroupFrame,
 ) -> Result<Part, Refusal>
     requires { IsBeside (K.table keyspace.old) heap.old }
     ensures ok { IfOk result (λ part. Performs (K.table keyspace.old) heap.old frame.after frame.changes.items part (K.table keyspace.new) heap.new) }

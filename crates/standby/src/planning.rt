@@ -10,7 +10,7 @@ ghost use Rattle.standby.specs.Taking.{Rearranges};
 ghost use Rattle.standby.specs.declared.planning.TheConstants.{FEW};
 
 use crate::standby::Standby;
-use frames::Frame;
+use frames::GroupFrame;
 use heap_layout::lines_for;
 use kv_types::{Change, Extent, Refusal};
 use model::Layout;
@@ -50,7 +50,7 @@ impl<E: Durable, K: Keyspace> Standby<E, K> {
     pub(crate) fn move_for(
         &mut self,
         alloc: Global,
-        frame: &Frame,
+        frame: &GroupFrame,
         end: u64,
     ) -> Result<bool, Refusal>
         requires follows { Follows (E.contents self.old.engine) (K.table self.old.keyspace) self.old.heap [] }
@@ -80,7 +80,7 @@ impl<E: Durable, K: Keyspace> Standby<E, K> {
     fn move_by(
         &mut self,
         alloc: Global,
-        frame: &Frame,
+        frame: &GroupFrame,
         end: u64,
         way: Way,
         need: u64,
@@ -111,7 +111,7 @@ impl<E: Durable, K: Keyspace> Standby<E, K> {
     fn make_moves(
         &mut self,
         alloc: Global,
-        frame: &Frame,
+        frame: &GroupFrame,
         rows: &[Row],
         moves: &[Move],
     ) -> Result<(), Refusal>

@@ -4,14 +4,14 @@ ghost use Rattle.kv_types.specs.declared.refusal.Refusal.TheVariants.{Fault};
 ghost use Rattle.model.specs.declared.group.TheConstants.{MAX_PARTS};
 ghost use Rattle.placing.specs.Place.{HasRoomFor};
 ghost use Rattle.wbl_engine.specs.Contents.{IsDurable};
-ghost use Rattle.frames.specs.declared.frame.Frame.{Frame as SomeFrame};
+ghost use Rattle.frames.specs.declared.group_frame.GroupFrame.{GroupFrame as SomeFrame};
 ghost use Rattle.standby.specs.Following.{Follows, HasCountersFor, IsGapless, IsNearLimit, NoGapIsLeft, WouldExhaust};
 ghost use Rattle.standby.specs.Moving.{HasCleared};
 ghost use Rattle.standby.specs.Spare.{HasRoomAtOnce};
 ghost use Rattle.standby.specs.Taking.{Rearranges, Tidies};
 
 use crate::standby::Standby;
-use frames::Frame;
+use frames::GroupFrame;
 use kv_types::Refusal;
 use model::{COUNTER_LIMIT, MAX_PARTS, Record, STAMP_WINDOW};
 use mv_keyspace::Keyspace;
@@ -27,7 +27,7 @@ impl<E: Durable, K: Keyspace> Standby<E, K> {
     /// # Errors
     ///
     /// `Memory` if an allocation was refused, `Fault` if a fence failed.
-    pub(crate) fn make_room(&mut self, alloc: Global, frame: &Frame) -> Result<(), Refusal>
+    pub(crate) fn make_room(&mut self, alloc: Global, frame: &GroupFrame) -> Result<(), Refusal>
         requires follows { Follows (E.contents self.old.engine) (K.table self.old.keyspace) self.old.heap [] }
         requires none { self.old.ended.items ≡ [] }
         requires sound { E.is_faulted self.old.engine ≡ false }
@@ -57,7 +57,7 @@ impl<E: Durable, K: Keyspace> Standby<E, K> {
     /// # Errors
     ///
     /// `Memory` if an allocation was refused, `Fault` if a fence failed.
-    pub(crate) fn clear_gaps(&mut self, alloc: Global, frame: &Frame) -> Result<bool, Refusal>
+    pub(crate) fn clear_gaps(&mut self, alloc: Global, frame: &GroupFrame) -> Result<bool, Refusal>
         requires follows { Follows (E.contents self.old.engine) (K.table self.old.keyspace) self.old.heap [] }
         requires none { self.old.ended.items ≡ [] }
         requires sound { E.is_faulted self.old.engine ≡ false }
@@ -81,7 +81,7 @@ impl<E: Durable, K: Keyspace> Standby<E, K> {
     /// # Errors
     ///
     /// Only `Memory`.
-    pub(crate) fn fits(&mut self, alloc: Global, frame: &Frame) -> Result<bool, Refusal>
+    pub(crate) fn fits(&mut self, alloc: Global, frame: &GroupFrame) -> Result<bool, Refusal>
         ensures fits { IfOk result (λ fits. IsTrue fits ↔ HasRoomFor self.old.heap frame.now.changes.items) }
         ensures same { self.new ≡ self.old }
         ensures cause { OnErr result (result ≡ Err Refusal.Memory) }

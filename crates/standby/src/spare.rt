@@ -7,7 +7,7 @@ ghost use Rattle.standby.specs.Spare.{HasRoomAtOnce, IsSpareFree, spare_line};
 ghost use Rattle.standby.specs.Taking.{Rearranges};
 
 use crate::standby::Standby;
-use frames::Frame;
+use frames::GroupFrame;
 use kv_types::{Extent, MAX_KEY_BYTES, MAX_VALUE_BYTES, Refusal};
 use model::LINE_BYTES;
 use mv_keyspace::Keyspace;
@@ -34,7 +34,7 @@ impl<E: Durable, K: Keyspace> Standby<E, K> {
     /// # Errors
     ///
     /// `Memory` if an allocation was refused, `Fault` if a fence failed.
-    pub(crate) fn make_room_below(&mut self, alloc: Global, frame: &Frame) -> Result<bool, Refusal>
+    pub(crate) fn make_room_below(&mut self, alloc: Global, frame: &GroupFrame) -> Result<bool, Refusal>
         requires follows { Follows (E.contents self.old.engine) (K.table self.old.keyspace) self.old.heap [] }
         requires none { self.old.ended.items ≡ [] }
         requires sound { E.is_faulted self.old.engine ≡ false }
@@ -81,7 +81,7 @@ impl<E: Durable, K: Keyspace> Standby<E, K> {
     pub(crate) fn fits_below(
         &mut self,
         alloc: Global,
-        frame: &Frame,
+        frame: &GroupFrame,
         end: u64,
     ) -> Result<bool, Refusal>
         ensures fits { IfOk result (λ fits. IsTrue fits ↔ HasRoomBelow self.old.heap frame.now.changes.items end) }

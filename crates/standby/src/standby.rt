@@ -6,7 +6,7 @@ ghost use Rattle.placing.specs.Fill.{fill_of};
 ghost use Rattle.standby.specs.Taking.{Stands, TakesFrame};
 
 use extent_heap::ExtentHeap;
-use frames::{Ack, Frame};
+use frames::{Ack, GroupFrame};
 use kv_types::{EntryNo, Refusal};
 use mv_keyspace::Keyspace;
 use placing::{Fill, Rebuilt, count_fill};
@@ -72,7 +72,7 @@ impl<E: Durable, K: Keyspace> Standby<E, K> {
     ///
     /// Those of `take_frame`, with the same after them; and `Fault` if a fence failed while what the frame ended was freed: the engine then holds the
     /// whole frame, and the image has to be reopened.
-    pub fn on_frame(&mut self, alloc: Global, frame: Frame) -> Result<Ack, Refusal>
+    pub fn on_frame(&mut self, alloc: Global, frame: GroupFrame) -> Result<Ack, Refusal>
         requires { Stands E.device E.contents E.is_faulted K.table self.old }
         ensures { TakesFrame E.device E.contents E.is_faulted K.table frame self.old result self.new }
     {

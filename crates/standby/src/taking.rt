@@ -11,7 +11,7 @@ ghost use Rattle.standby.specs.Taking.{IsDue, Stands, TakesFrame};
 
 use crate::part::make_part;
 use crate::standby::Standby;
-use frames::{Ack, Frame};
+use frames::{Ack, GroupFrame};
 use kv_types::Refusal;
 use model::{COUNTER_LIMIT, Group, Record, Role, STAMP_WINDOW};
 use mv_keyspace::Keyspace;
@@ -35,7 +35,7 @@ impl<E: Durable, K: Keyspace> Standby<E, K> {
     /// is freed and the gaps of the record are cleared: that stands, and nothing else changed. `Memory` if an allocation was refused: nothing
     /// changed but what was done to make room. `Fault` if a fence failed: the engine holds the map that it held, or the whole frame, but the keyspace
     /// and the heap may be ahead of it or behind it, so the image has to be reopened.
-    pub fn take_frame(&mut self, alloc: Global, frame: Frame) -> Result<Ack, Refusal>
+    pub fn take_frame(&mut self, alloc: Global, frame: GroupFrame) -> Result<Ack, Refusal>
         requires { Stands E.device E.contents E.is_faulted K.table self.old }
         ensures { TakesFrame E.device E.contents E.is_faulted K.table frame self.old result self.new }
     {
@@ -62,7 +62,7 @@ impl<E: Durable, K: Keyspace> Standby<E, K> {
     /// # Errors
     ///
     /// `Full`, `Memory` and `Fault`, as at `take_frame`.
-    fn take_alone(&mut self, alloc: Global, frame: Frame) -> Result<Ack, Refusal>
+    fn take_alone(&mut self, alloc: Global, frame: GroupFrame) -> Result<Ack, Refusal>
         requires stands { Stands E.device E.contents E.is_faulted K.table self.old }
         requires due { IsDue (E.contents self.old.engine).current frame }
         ensures { TakesFrame E.device E.contents E.is_faulted K.table frame self.old result self.new }
@@ -112,7 +112,7 @@ impl<E: Durable, K: Keyspace> Standby<E, K> {
 
     /// Makes the frame's changes and commits them, as one part, and lists what they ended. Nothing that ended earlier is left. Where it is refused
     /// for room or memory, nothing changed. After `Fault` the keyspace and the heap are ahead of the engine.
-    fn commit_frame(&mut self, alloc: Global, frame: Frame) -> Result<(), Refusal>
+    fn commit_frame(&mut self, alloc: Global, frame: GroupFrame) -> Result<(), Refusal>
         requires follows { Follows (E.contents self.old.engine) (K.table self.old.keyspace) self.old.heap [] }
         requires none { self.old.ended.items ≡ [] }
         requires sound { E.is_faulted self.old.engine ≡ false }
@@ -158,14 +158,14 @@ impl<E: Durable, K: Keyspace> Standby<E, K> {
 }
 
 /// Whether the frame is the one that comes next at this position.
-fn is_next(position: u64, frame: &Frame) -> bool
+fn is_next(position: u64, frame: &GroupFrame) -> bool
     ensures { IsTrue result ↔ IsNext position frame.now }
 {
     position < frame.after && frame.before == position
 }
 
 /// Whether the commit of the frame would bring a counter to its limit, or the record is a newcomer's.
-fn would_exhaust(current: &Record, frame: &Frame) -> bool
+fn would_exhaust(current: &Record, frame: &GroupFrame) -> bool
     ensures { IsTrue result ↔ WouldExhaust current.now frame.now }
 {
     current.cp >= COUNTER_LIMIT - STAMP_WINDOW - 2

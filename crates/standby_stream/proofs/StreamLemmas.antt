@@ -3,7 +3,7 @@ use Rattle.std.proofs.Common.{◌≡◌, ℕ, ◌+◌, ◌<◌, ◌++◌, [], �
 use Rattle.std.proofs.lemmas.List.{length-append}
 use Rattle.kv_types.specs.declared.refusal.Refusal.{Refusal}
 use Rattle.model.specs.declared.group.Group.{Group}
-use Rattle.frames.specs.declared.frame.Frame.{Frame}
+use Rattle.frames.specs.declared.group_frame.GroupFrame.{GroupFrame}
 use Rattle.standby_stream.specs.Sent.{IsSent}
 use Rattle.standby_stream.specs.Stream.{Stream, TakesNext, Adds, Frames, IsFrameOf, with_frame}
 
@@ -42,11 +42,11 @@ module _ {I : Type 0} (gives : I → Option Group → I → Type 0) (before afte
       (group, subst (λ found. TakesNext gives own.pending before found after) is takes, ap (λ p. record own { pending = p }) is)
 
   -- its frame is kept last
-  pub adds-frame : (frame : Frame) (kept : List Frame) → IsFrameOf own.epoch group frame → kept ≡ own.kept ++ frame ∷ []
+  pub adds-frame : (frame : GroupFrame) (kept : List GroupFrame) → IsFrameOf own.epoch group frame → kept ≡ own.kept ++ frame ∷ []
       → (found : Option Group) × TakesNext gives now.pending before found after × Adds now found true (record own { kept = kept; pending = None })
   adds-frame frame kept of more =
       subst (λ (s : Stream). (found : Option Group) × TakesNext gives s.pending before found after × Adds s found true (record own { kept = kept; pending = None })) same (
         Some group,
         subst (λ found. TakesNext gives own.pending before found after) is takes,
-        (refl, (frame, of, ap (λ (frames : List Frame). record own { kept = frames; pending = None }) more)),
+        (refl, (frame, of, ap (λ (frames : List GroupFrame). record own { kept = frames; pending = None }) more)),
       )

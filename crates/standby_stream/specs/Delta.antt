@@ -13,7 +13,7 @@ use Rattle.heap_layout.specs.declared.entry.Entry.{Entry}
 use Rattle.model.specs.declared.image.TheConstants.{MAX_LINES}
 use Rattle.model.specs.Group.{Contents, Versions, bytes_of_id, entries_of}
 use Rattle.model.specs.Image.{IsLive, IsMapOf, Version, lines_of_bytes}
-use Rattle.frames.specs.declared.frame.Frame.{Frame}
+use Rattle.frames.specs.declared.group_frame.GroupFrame.{GroupFrame}
 use Rattle.mv_keyspace.specs.declared.row.Row.{Row}
 use Rattle.mv_keyspace.specs.Row.{table_of}
 use Rattle.mv_keyspace.specs.Table.{Table, IsTable, since}
@@ -68,7 +68,7 @@ abbrev pub delta_changes : Opening → ℕ → List Change
 delta_changes opening from = map Drop opening.gone.items ++ map put_of_row (filter (λ row. nat_lt from row.position) opening.rows.items)
 
 -- the frame of the delta from this position, in this epoch
-pub record IsDelta (epoch : ℕ) (opening : Opening) (from : ℕ) (frame : Frame) : Type 0 where
+pub record IsDelta (epoch : ℕ) (opening : Opening) (from : ℕ) (frame : GroupFrame) : Type 0 where
   pub epoch_is : frame.epoch ≡ epoch
   pub before : frame.before ≡ from
   pub after : frame.after ≡ opening.position

@@ -4,14 +4,14 @@ use Rattle.model.specs.declared.group.Group.{Group}
 use Rattle.model.specs.Group.{changes_of_group, last_position}
 use Rattle.pipes.specs.declared.limits.TheConstants.{KEPT_GROUPS}
 use Rattle.frames.specs.declared.ack.Ack.{Ack}
-use Rattle.frames.specs.declared.frame.Frame.{Frame}
+use Rattle.frames.specs.declared.group_frame.GroupFrame.{GroupFrame}
 
 -- what a link holds
 pub record Stream : Type 0 where
   -- that of each frame
   pub epoch : ℕ
   -- the frames that are not acknowledged, oldest first
-  pub kept : List Frame
+  pub kept : List GroupFrame
   -- the index of the one that is sent next
   pub next : ℕ
   -- the highest position that was acknowledged
@@ -19,19 +19,19 @@ pub record Stream : Type 0 where
   -- a group that was taken and has no frame yet
   pub pending : Option Group
   -- the frame that is sent before all kept ones, to a standby that is behind the position at which the primary was opened
-  pub delta : Option Frame
+  pub delta : Option GroupFrame
 
 abbrev pub new_stream : ℕ → Stream
 new_stream epoch = record { epoch = epoch; kept = []; next = 0; known = 0; pending = None; delta = None }
 
 -- what is true of every link: it keeps no more than it may, it has the room for that, and what is sent next is kept or comes
-pub record IsStream (kept : List Frame) (next capacity : ℕ) : Type 0 where
+pub record IsStream (kept : List GroupFrame) (next capacity : ℕ) : Type 0 where
   pub few : length kept ≤ KEPT_GROUPS
   pub next_within : next ≤ length kept
   pub has_room : KEPT_GROUPS ≤ capacity
 
 -- the frame of a group: its changes, with the positions before and after them
-pub record IsFrameOf (epoch : ℕ) (group : Group) (frame : Frame) : Type 0 where
+pub record IsFrameOf (epoch : ℕ) (group : Group) (frame : GroupFrame) : Type 0 where
   pub epoch_is : frame.epoch ≡ epoch
   pub before : frame.before ≡ group.before
   pub after : frame.after ≡ last_position group.before group.parts.items
@@ -52,24 +52,24 @@ abbrev pub TakesNext : {I : Type 0} → (I → Option Group → I → Type 0) �
 TakesNext gives (Some group) before found after = (found ≡ Some group) × (after ≡ before)
 TakesNext gives None before found after = gives before found after
 
-abbrev pub with_frame : Frame → Stream → Stream
+abbrev pub with_frame : GroupFrame → Stream → Stream
 with_frame frame stream = record stream { kept = stream.kept ++ frame ∷ []; pending = None }
 
 -- the frame of the group that was found is kept last
 abbrev pub Adds : Stream → Option Group → Bool → Stream → Type 0
 Adds old None did new = (did ≡ false) × (new ≡ old)
-Adds old (Some group) did new = (did ≡ true) × ((frame : Frame) × IsFrameOf old.epoch group frame × (new ≡ with_frame frame old))
+Adds old (Some group) did new = (did ≡ true) × ((frame : GroupFrame) × IsFrameOf old.epoch group frame × (new ≡ with_frame frame old))
 
 -- the frame of the group that was found is kept last, and it is the one that is sent
 abbrev pub Frames : Stream → Option Group → Option ℕ → Stream → Type 0
 Frames old None given new = (given ≡ None) × (new ≡ old)
 Frames old (Some group) given new =
     (given ≡ Some old.next)
-    × ((frame : Frame) × IsFrameOf old.epoch group frame
+    × ((frame : GroupFrame) × IsFrameOf old.epoch group frame
     × (new ≡ record old { kept = old.kept ++ frame ∷ []; next = old.next + 1; pending = None }))
 
 -- the frames from the first on that ends above the position
-abbrev pub above : ℕ → List Frame → List Frame
+abbrev pub above : ℕ → List GroupFrame → List GroupFrame
 above position [] = []
 above position (frame ∷ frames) = if nat_le frame.after position then above position frames else frame ∷ frames
 

@@ -3,13 +3,13 @@ ghost use Rattle.std.specs.Prelude.{◌≡◌, ◌++◌, map, IfOk, OnOk};
 ghost use Rattle.model.specs.Group.{change_of};
 ghost use Rattle.standby_stream.specs.Stream.{IsFrameOf};
 
-use frames::Frame;
+use frames::GroupFrame;
 use kv_types::Change;
 use model::{Group, PlacedChange};
 use std::alloc::{AllocError, Global};
 
 /// The frame of a group: its changes without their places. It shares the bytes of the group.
-pub(crate) fn frame_of(alloc: Global, group: &Group, epoch: u64) -> Result<Frame, AllocError>
+pub(crate) fn frame_of(alloc: Global, group: &Group, epoch: u64) -> Result<GroupFrame, AllocError>
     ensures { IfOk result (λ frame. IsFrameOf epoch group.now frame) }
 {
     let mut after = group.before;
@@ -18,7 +18,7 @@ pub(crate) fn frame_of(alloc: Global, group: &Group, epoch: u64) -> Result<Frame
         after = part.position;
         add_changes(&mut changes, &part.changes)?;
     }
-    Ok(Frame {
+    Ok(GroupFrame {
         epoch,
         before: group.before,
         after,

@@ -8,7 +8,7 @@ ghost use Rattle.standby_stream.specs.Sent.{MaySend};
 ghost use Rattle.standby_stream.specs.Stream.{TakesNext, IsFull, IsDue, Adds, Frames, new_stream, above, acknowledged, counts};
 
 use crate::frame_of::frame_of;
-use frames::{Ack, Frame};
+use frames::{Ack, GroupFrame};
 use kv_types::Refusal;
 use model::Group;
 use pipes::{Inlet, KEPT_GROUPS};
@@ -21,7 +21,7 @@ use std::marker::Model;
 pub(crate) struct Link {
     epoch: u64,
     /// Frames that are not acknowledged, oldest first.
-    kept: VecDeque<Frame>,
+    kept: VecDeque<GroupFrame>,
     /// The index in `kept` of the frame that is sent next.
     next: usize,
     /// The highest position that was acknowledged.
@@ -29,7 +29,7 @@ pub(crate) struct Link {
     /// A group that was taken and has no frame yet, as memory was refused.
     pending: Option<Group>,
     /// A frame that is sent before all others, to a standby that is behind the position at which the primary was opened.
-    delta: Option<Frame>,
+    delta: Option<GroupFrame>,
 }
 
 impl Model for Link {
@@ -71,7 +71,7 @@ impl Link {
     }
 
     /// The link opens anew: this delta, if the standby is due one, and after it all kept frames are to be sent, the oldest first.
-    pub(crate) fn reopen(&mut self, delta: Option<Frame>)
+    pub(crate) fn reopen(&mut self, delta: Option<GroupFrame>)
         ensures { self.new ≡ record self.old { next = 0; delta = delta } }
     {
         self.next = 0;
@@ -79,7 +79,7 @@ impl Link {
     }
 
     /// The delta, if one is to be sent. It comes before what `next_frame` gives, and is given once each time that the link opens.
-    pub(crate) fn take_delta(&mut self) -> Option<Frame>
+    pub(crate) fn take_delta(&mut self) -> Option<GroupFrame>
         ensures given { result ≡ (self.old).delta }
         ensures left { self.new ≡ record self.old { delta = None } }
     {
@@ -130,7 +130,7 @@ impl Link {
     }
 
     /// A kept frame, by its index. An acknowledgement gives the frames other indices.
-    pub(crate) fn frame(&self, index: usize) -> &Frame
+    pub(crate) fn frame(&self, index: usize) -> &GroupFrame
         requires { index < length (self.now).kept }
         ensures { slice_get (self.now).kept index ≡ Some result.now }
     {
@@ -219,7 +219,7 @@ fn take_next<I: Inlet<Item = Group>>(pending: &mut Option<Group>, groups: &mut I
 }
 
 /// Drops the oldest frames, as far as they end at this position or below it. Answers how many.
-fn drop_known(kept: &mut VecDeque<Frame>, position: u64) -> usize
+fn drop_known(kept: &mut VecDeque<GroupFrame>, position: u64) -> usize
     ensures kept { kept.new.items ≡ above position kept.old.items }
     ensures count { result + length kept.new.items ≡ length kept.old.items }
     ensures capacity { deque_capacity kept.new ≡ deque_capacity kept.old }

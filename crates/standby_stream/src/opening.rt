@@ -8,7 +8,7 @@ ghost use Rattle.mv_keyspace.specs.Row.{table_of};
 ghost use Rattle.mv_keyspace.specs.Table.{records, since};
 ghost use Rattle.standby_stream.specs.Delta.{IsDelta, IsServed, ids_ended, put_of_row};
 
-use frames::Frame;
+use frames::GroupFrame;
 use heap_layout::Entry;
 use kv_types::{Change, EntryNo, RecordId, Refusal};
 use mv_keyspace::{Keyspace, Row};
@@ -158,7 +158,7 @@ pub(crate) fn delta(
     epoch: u64,
     opening: &Opening,
     from: u64,
-) -> Result<Frame, Refusal>
+) -> Result<GroupFrame, Refusal>
     ensures ok { IfOk result (λ frame. IsDelta epoch opening.now from frame) }
     ensures ahead { opening.now.position ≤ from → result ≡ Err Refusal.StandbyAhead }
     ensures refused { from < opening.now.position → IfErr result (λ refusal. refusal ≡ Refusal.Memory) }
@@ -169,7 +169,7 @@ pub(crate) fn delta(
     let mut changes = Vec::new(alloc);
     add_drops(&mut changes, &opening.gone)?;
     add_puts(&mut changes, &opening.rows, from)?;
-    Ok(Frame {
+    Ok(GroupFrame {
         epoch,
         before: from,
         after: opening.position,

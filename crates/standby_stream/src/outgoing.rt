@@ -3,7 +3,7 @@ ghost use Rattle.std.specs.Prelude.{◌≤◌, length};
 
 use crate::link::{Link, judge};
 use crate::opening::{Opening, delta};
-use frames::{Ack, Frame};
+use frames::{Ack, GroupFrame};
 use kv_types::Refusal;
 use model::Group;
 use pipes::Inlet;
@@ -23,7 +23,7 @@ impl Outgoing {
     ghost use Rattle.std.specs.Prelude.{◌≡◌, ◌↔◌, ◌+◌, ◌<◌, slice_get, Ok, Err, Option, Some, None, OnOk, OnErr, IfOk, IfErr, IfSome, IsTrue, false, true};
     ghost use Rattle.kv_types.specs.declared.refusal.Refusal.TheVariants.{Memory, PositionGap, StandbyAhead, WrongEpoch};
     ghost use Rattle.model.specs.declared.group.Group.{Group as Item};
-    ghost use Rattle.frames.specs.declared.frame.Frame.{Frame as Kept};
+    ghost use Rattle.frames.specs.declared.group_frame.GroupFrame.{GroupFrame as Kept};
     ghost use Rattle.standby_stream.specs.Delta.{IsDelta, IsServed};
     ghost use Rattle.standby_stream.specs.Outgoing.{Notes};
     ghost use Rattle.standby_stream.specs.Sent.{MaySend};
@@ -140,7 +140,7 @@ impl Outgoing {
     }
 
     /// The delta, if one is to be sent, as `Link::take_delta` gives it.
-    pub fn take_delta(&mut self) -> Option<Frame>
+    pub fn take_delta(&mut self) -> Option<GroupFrame>
         ensures given { result ≡ (self.old.link).delta }
         ensures left { self.new.link ≡ record self.old.link { delta = None } }
         ensures opening { self.new.opening ≡ self.old.opening }
@@ -173,7 +173,7 @@ impl Outgoing {
     }
 
     /// A kept frame, by its index. An acknowledgement gives the frames other indices.
-    pub fn frame(&self, index: usize) -> &Frame
+    pub fn frame(&self, index: usize) -> &GroupFrame
         requires { index < length (self.now.link).kept }
         ensures { slice_get (self.now.link).kept index ≡ Some result.now }
     {

@@ -4,11 +4,16 @@ use frames::{Ack, Frame};
 /// The most bytes that the changes of one group have together.
 pub const MAX_BODY_BYTES: u64 = 1 << 40;
 
+/// The most bytes that the puts of one part of a copy have together. The longest put has 1,049,609.
+pub const MAX_PART_BYTES: u64 = 1 << 21;
+
+/// The fewest bytes that a put has: of a string with an empty key and an empty value.
+pub const LEAST_PUT_BYTES: u64 = 1 + 2 + 4;
+
 /// What one node tells the other.
 #[derive(Debug, Drop)]
 pub enum Message {
-    /// From the primary: the changes between two positions.
-    Group(Frame),
+    Frame(Frame),
     /// From the standby: what is durable on it.
     Ack(Ack),
 }

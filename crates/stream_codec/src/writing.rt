@@ -2,12 +2,13 @@
 ghost use Rattle.std.specs.Prelude.{◌≡◌, ◌+◌, ◌^◌, ◌<◌, ◌≤◌, [], ◌∷◌, ◌++◌, length, OnOk, OnErr, IsOk};
 ghost use Rattle.std.specs.List.{flat_map, AllByRecursion};
 ghost use Rattle.std.specs.Option.{SomeIff};
+ghost use Rattle.kv_types.specs.declared.change.Change.TheVariants.{Put};
 ghost use Rattle.kv_types.specs.Change.{short_bytes, long_bytes, change_text, changes_text, changes_size};
-ghost use Rattle.stream_codec.specs.Message.{IsChange, IsWithinLimits, long, sent_of_frame, sent_of_ack, sent_text};
+ghost use Rattle.stream_codec.specs.Message.{IsChange, IsWithinLimits, long, sent_of_group, sent_of_ack, sent_text};
 ghost use Rattle.stream_codec.specs.Puts.{Puts};
 
 use bytes::BufMut;
-use frames::{Ack, Frame};
+use frames::{Ack, GroupFrame};
 use kv_types::{Change, Key, MAX_KEY_BYTES, MAX_VALUE_BYTES, RecordId, Value};
 use std::alloc::AllocError;
 
@@ -19,12 +20,12 @@ pub const ACK_BYTES: usize = 1 + 8 + 8;
 
 /// Appends the bytes of a group's frame to `out`. It fails only if `out` had no room for them and could not make it, and then nothing is written. Keys,
 /// fields and values hold their limits, so each change that is written is within them.
-pub fn write_group<W: BufMut>(frame: &Frame, out: &mut W) -> Result<(), AllocError>
-    ensures ok { OnOk result (W.written out.new ≡ W.written out.old ++ sent_text (sent_of_frame frame.now)) }
+pub fn write_group<W: BufMut>(frame: &GroupFrame, out: &mut W) -> Result<(), AllocError>
+    ensures ok { OnOk result (W.written out.new ≡ W.written out.old ++ sent_text (sent_of_group frame.now)) }
     ensures err { OnErr result (W.written out.new ≡ W.written out.old) }
-    ensures succeeds { let text = sent_text (sent_of_frame frame.now) in length text < 2 ^ 64 → length text ≤ W.spare out.old → IsOk result }
-    ensures spare { OnOk result (W.spare out.old ≤ W.spare out.new + length (sent_text (sent_of_frame frame.now))) }
-    ensures within { OnOk result (IsWithinLimits (sent_of_frame frame.now)) }
+    ensures succeeds { let text = sent_text (sent_of_group frame.now) in length text < 2 ^ 64 → length text ≤ W.spare out.old → IsOk result }
+    ensures spare { OnOk result (W.spare out.old ≤ W.spare out.new + length (sent_text (sent_of_group frame.now))) }
+    ensures within { OnOk result (IsWithinLimits (sent_of_group frame.now)) }
 {
     let len = group_len(frame).ok_or(AllocError)?;
     out.reserve(len)?;
@@ -44,8 +45,8 @@ pub fn write_ack<W: BufMut>(ack: Ack, out: &mut W) -> Result<(), AllocError>
 }
 
 /// How many bytes the frame has, or `None` if no memory could hold them.
-fn group_len(frame: &Frame) -> Option<usize>
-    ensures { let len = length (sent_text (sent_of_frame frame.now)) in SomeIff result (len < 2 ^ 64) len }
+fn group_len(frame: &GroupFrame) -> Option<usize>
+    ensures { let len = length (sent_text (sent_of_group frame.now)) in SomeIff result (len < 2 ^ 64) len }
 {
     let len = body_len(frame.changes.as_slice())?.checked_add(GROUP_HEAD_BYTES as u64)?;
     Some(len as usize)
@@ -70,9 +71,9 @@ fn put_ack<W: BufMut>(ack: Ack, out: &mut W) -> Result<(), AllocError>
     put_numbers(&[ack.epoch(), ack.position()], out)
 }
 
-fn put_group<W: BufMut>(frame: &Frame, out: &mut W) -> Result<(), AllocError>
+fn put_group<W: BufMut>(frame: &GroupFrame, out: &mut W) -> Result<(), AllocError>
     requires { changes_size frame.now.changes.items < 2 ^ 64 }
-    ensures puts { Puts result (W.written out.old) (W.written out.new) (W.spare out.old) (W.spare out.new) (sent_text (sent_of_frame frame.now)) }
+    ensures puts { Puts result (W.written out.old) (W.written out.new) (W.spare out.old) (W.spare out.new) (sent_text (sent_of_group frame.now)) }
     ensures fits { (frame.now.epoch < 2 ^ 64) × (frame.now.after < 2 ^ 64) }
     ensures within { OnOk result (AllByRecursion IsChange frame.now.changes.items) }
 {
@@ -84,7 +85,7 @@ fn put_group<W: BufMut>(frame: &Frame, out: &mut W) -> Result<(), AllocError>
 }
 
 /// Puts numbers, each in eight bytes.
-fn put_numbers<W: BufMut>(numbers: &[u64], out: &mut W) -> Result<(), AllocError>
+pub(crate) fn put_numbers<W: BufMut>(numbers: &[u64], out: &mut W) -> Result<(), AllocError>
     ensures { Puts result (W.written out.old) (W.written out.new) (W.spare out.old) (W.spare out.new) (flat_map long numbers.now) }
 {
     for number in numbers {
@@ -108,15 +109,7 @@ fn put_change<W: BufMut>(change: &Change, out: &mut W) -> Result<(), AllocError>
     ensures within { OnOk result (IsChange change.now) }
 {
     match change {
-        Change::Put(RecordId::Str(key), value) => {
-            put_first(1, key, out)?;
-            put_value(value, out)
-        }
-        Change::Put(RecordId::Field(key, field), value) => {
-            put_first(2, key, out)?;
-            put_name(field, out)?;
-            put_value(value, out)
-        }
+        Change::Put(id, value) => put_record(id, value, out),
         Change::Drop(RecordId::Str(key)) => put_first(3, key, out),
         Change::Drop(RecordId::Field(key, field)) => {
             put_first(4, key, out)?;
@@ -124,6 +117,28 @@ fn put_change<W: BufMut>(change: &Change, out: &mut W) -> Result<(), AllocError>
         }
         Change::DropKey(key) => put_first(5, key, out),
         Change::Clear => out.put_u8(6),
+    }
+}
+
+/// Puts the change that sets a record to a value.
+pub(crate) fn put_record<W: BufMut>(
+    id: &RecordId,
+    value: &Value,
+    out: &mut W,
+) -> Result<(), AllocError>
+    ensures puts { Puts result (W.written out.old) (W.written out.new) (W.spare out.old) (W.spare out.new) (change_text (Put id.now value.now)) }
+    ensures within { OnOk result (IsChange (Put id.now value.now)) }
+{
+    match id {
+        RecordId::Str(key) => {
+            put_first(1, key, out)?;
+            put_value(value, out)
+        }
+        RecordId::Field(key, field) => {
+            put_first(2, key, out)?;
+            put_name(field, out)?;
+            put_value(value, out)
+        }
     }
 }
 
