@@ -306,7 +306,7 @@ def resident(node, name="VmRSS"):
 
 
 class Memory(Large):
-    """What such values cost over images without journals (with one all of the image is in memory, docs/performance.md). It catches a buffer that keeps the room
+    """What such values cost over images without journals (with one what was sealed comes on top, docs/performance.md). It catches a buffer that keeps the room
     of a long word, of a long frame or of a delta, and room for what did not come."""
 
     def start(self, lines):

@@ -1,6 +1,7 @@
 -- Words of which the last are zeros that are not kept.
-use Rattle.std.proofs.Common.{◌≡◌, ℕ, zero, suc, ◌+◌, ◌-◌, ◌<◌, ◌≤◌, List, [], ◌∷◌, ◌++◌, length, replicate, get_or, refl, sym, ap, ◌∙◌, arith, append_assoc, length-append, Result, Ok, Err, OnOk}
-use Rattle.std.proofs.lemmas.List.{append-nil, replicate-append-replicate, replicate_more, length-replicate}
+use Rattle.std.proofs.Common.{◌≡◌, ℕ, zero, suc, ◌+◌, ◌-◌, ◌<◌, ◌≤◌, inl, inr, List, [], ◌∷◌, ◌++◌, length, replicate, take, get_or, refl, sym, ap, ◌∙◌, arith, append_assoc, length-append, Result, Ok, Err, OnOk}
+use Rattle.std.proofs.lemmas.Bool.{cases_lt}
+use Rattle.std.proofs.lemmas.List.{append-nil, replicate-append-replicate, replicate_more, length-replicate, length-take, get_or-take, get_or_past, ext_get_or}
 
 -- these words, and zeros behind them, so many in all
 abbrev pub whole : List ℕ → ℕ → List ℕ
@@ -68,3 +69,21 @@ at-front (x ∷ xs) n (suc k) = at-front xs n k
 
 pub whole-at : (kept : List ℕ) (count k : ℕ) → get_or (whole kept count) k 0 ≡ get_or kept k 0
 whole-at kept count k = at-front kept (count - length kept) k
+
+-- ---- the last that is no zero
+
+pub used-at : (kept : List ℕ) (used : ℕ) → ((word : ℕ) → used ≤ word → get_or kept word 0 ≡ 0) → (word : ℕ)
+    → get_or (take used kept) word 0 ≡ get_or kept word 0
+used-at kept used zeros word =
+    elim (cases_lt word used) [
+      | inl below ↦ get_or-take used kept word 0 below
+      | inr beyond ↦ get_or_past (take used kept) word 0 (omega (arith, length-take used kept, beyond)) ∙ sym (zeros word beyond)
+    ]
+
+-- what is behind it need not be kept
+pub whole-used : (kept : List ℕ) (used count : ℕ) → used ≤ length kept → length kept ≤ count
+    → ((word : ℕ) → used ≤ word → get_or kept word 0 ≡ 0) → whole (take used kept) count ≡ whole kept count
+whole-used kept used count within fit zeros =
+    ext_get_or 0 (whole (take used kept) count) (whole kept count)
+    (omega (arith, length-filled (take used kept) count, length-filled kept count, length-take used kept, within, fit))
+    (λ word _. whole-at (take used kept) count word ∙ used-at kept used zeros word ∙ sym (whole-at kept count word))

@@ -84,11 +84,13 @@ pub fn journaled_over(
     };
     let part = part_of(&tail, shape);
     words.replay(shape.lines, part);
+    // (up to the head of the journal, which is no 0, all words were kept)
+    let image = words.compacted(alloc)?;
     let mut journal = FileJournal::new(alloc, head)?;
-    if !journal.recover(&mut file, &mut buffer, &words, part) {
+    if !journal.recover(&mut file, &mut buffer, &image, part) {
         return Err(Refusal::Fault);
     }
-    Ok(FilePmem::Journaled(JournaledFile::new(words, loaded.notes, buffer, calls, file, journal)))
+    Ok(FilePmem::Journaled(JournaledFile::new(image, loaded.notes, buffer, calls, file, journal)))
 }
 
 /// The head that stands at the beginning of what is behind an image.
@@ -123,10 +125,11 @@ pub fn replayed_over(
     let mut words = loaded.words;
     let tail = words.split_off(alloc, 8 * shape.lines as usize)?;
     words.replay(shape.lines, part_of(&tail, shape));
+    let image = words.compacted(alloc)?;
     let (file, calls) = opening.into_parts();
-    let file = LoggedFile::new(file, &words);
+    let file = LoggedFile::new(file, &image);
     Ok(FilePmem::Placed(PlacedFile::new(
-        words,
+        image,
         loaded.notes,
         loaded.buffer,
         calls,

@@ -118,6 +118,19 @@ impl Words {
         self.kept.truncate(self.count);
     }
 
+    /// The same words in fresh memory, of which those up to the last that is not 0 are kept.
+    pub fn compacted(self, alloc: Global) -> Result<Words, AllocError>
+        ensures { IfOk result (λ words. words ≡ self) }
+    {
+        let (used, _) = self.kept.split_at(up_to_last(&self.kept));
+        let mut kept = Vec::with_capacity(alloc, self.count)?;
+        kept.extend_from_slice(used)?;
+        Ok(Words {
+            kept,
+            count: self.count,
+        })
+    }
+
     /// Puts a value in the place of a word. It takes no memory.
     pub fn set(&mut self, word: usize, value: u64)
         requires { word < length self.old }
@@ -200,6 +213,19 @@ fn fill(words: &mut Vec<u64>, count: usize)
     while words.len() < count {
         words.push_reserved(0);
     }
+}
+
+/// How many words there are up to the last that is not 0.
+fn up_to_last(words: &[u64]) -> usize
+    ensures within { result ≤ length words.now }
+    ensures last { 0 < result → 0 < slice_index words.now (result - 1) }
+    ensures zeros { (word : ℕ) → result ≤ word → slice_index words.now word ≡ 0 }
+{
+    let mut count = words.len();
+    while count > 0 && words[count - 1] == 0 {
+        count -= 1;
+    }
+    count
 }
 
 /// A law: words fit in 64 bits, and 0 does too, where there is none.

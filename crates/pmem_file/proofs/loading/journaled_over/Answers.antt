@@ -28,8 +28,9 @@ recover-requires-clause-replayed c =
       subst (λ (m : ℕ). IsJournal m c.part_of-part.result.now records) (sym lines) c.replay.ensures.replayed.1,
       λ word below.
           let inside : word < n =
-          omega (arith, below, c.replay.ensures.count, ap length kept, length-take n all, c.requires.words, c.requires.whole) in
-          c.replay.ensures.replayed.2 word
+          omega (arith, below, ap length c.in_ok-image.ensures, c.replay.ensures.count, ap length kept, length-take n all, c.requires.words, c.requires.whole) in
+          ap (λ (l : List ℕ). get_or l word 0) c.in_ok-image.ensures
+          ∙ c.replay.ensures.replayed.2 word
           ∙ replayed-at records (λ w. get_or c.split_off.new.self w 0) _ word
           (λ none.
           ap (λ (l : List ℕ). get_or l word 0) kept ∙ get_or-take n all word 0 inside ∙ ap (λ (l : List ℕ). get_or l word 0) (sym c.new-file.ensures.read)),
@@ -40,16 +41,19 @@ returns-clause-fresh c =
     let shape = c.args.shape in
     let all = c.args.loaded.words in
     let tail = c.in_ok-tail.tail.items in
-    let words = c.replay.new.self in
+    let words = c.in_ok-image.image in
     let records = c.replay.ensures.replayed.0 in
     let kept = c.in_ok-tail.ensures.kept in
     let count : length words ≡ 8 * shape.lines =
-    c.replay.ensures.count ∙ omega (arith, ap length kept, length-take (8 * shape.lines) all, c.requires.words, c.requires.whole) in
+    ap length c.in_ok-image.ensures ∙ c.replay.ensures.count
+    ∙ omega (arith, ap length kept, length-take (8 * shape.lines) all, c.requires.words, c.requires.whole) in
     let journal : IsJournal shape.lines (part_behind shape tail) records =
     subst (λ (part : List ℕ). IsJournal shape.lines part records) (c.part_of-part.ensures ∙ ap (part_behind shape) c.deref-2.ensures.value) c.replay.ensures.replayed.1 in
     let m : IsMadeOf shape (word_of all) (word_of words) =
     made-of shape all tail words records (omega (arith, c.requires.words, c.requires.whole)) c.in_ok-tail.ensures.taken count journal
-    (λ word. c.replay.ensures.replayed.2 word ∙ ap (λ (l : List ℕ). replayed records (λ w. get_or l w 0) word) kept) in
+    (λ word.
+    ap (λ (l : List ℕ). get_or l word 0) c.in_ok-image.ensures ∙ c.replay.ensures.replayed.2 word
+    ∙ ap (λ (l : List ℕ). replayed records (λ w. get_or l w 0) word) kept) in
     let same : c.new-2.result.journal.head.shape ≡ shape =
     ap (λ (j : FileJournal). j.head.shape) c.new-2.ensures.journal ∙ c.recover.ensures.shape
     ∙ ap (λ (h : Head). h.shape) c.in_ok-journal.ensures.head ∙ c.in-Some.ensures.same in

@@ -27,7 +27,9 @@ returns-clause-made c =
     record {
       image = word_of words;
       made = record { made = m.opens; behind = m.behind };
-      words = c.new.ensures.fresh.words ∙ ap {B = ℕ → Word} (λ (ws : List ℕ). λ (word : ℕ). settled (get_or ws word 0)) c.new.ensures.words;
+      words =
+          c.new.ensures.fresh.words
+          ∙ ap {B = ℕ → Word} (λ (ws : List ℕ). λ (word : ℕ). settled (get_or ws word 0)) (c.new.ensures.words ∙ c.in_ok-image.ensures);
       past = c.new.ensures.fresh.past;
       failures = c.new.ensures.fresh.failures;
     }
