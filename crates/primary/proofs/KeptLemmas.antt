@@ -5,6 +5,7 @@ use Rattle.kv_types.specs.declared.item.Item.{Item}
 use Rattle.kv_types.specs.declared.refusal.Refusal.{Refusal}
 use Rattle.kv_types.specs.declared.reply.Reply.{Reply}
 use Rattle.kv_types.specs.Keyspace.{Keyspace, play_all}
+use Rattle.model.specs.declared.group.Group.{Group}
 use Rattle.model.specs.declared.group.Part.{Part}
 use Rattle.model.specs.declared.work.FreeList.{FreeList}
 use Rattle.model.specs.declared.work.Work.{Work}
@@ -17,7 +18,7 @@ use Rattle.mv_keyspace.specs.Table.{records}
 use Rattle.wbl_engine.specs.declared.freeing.Freed.{Freed}
 use Rattle.redis_core.specs.declared.turn.Turn.{Turn}
 use Rattle.redis_core.specs.declared.turn.Turn.TheVariants as turn
-use Rattle.redis_core.specs.Sequencing.{MovesSeat, Sequencing, state_of}
+use Rattle.redis_core.specs.Sequencing.{HandsOut, LeadsOn, MovesSeat, Sequencing, state_of}
 use Rattle.redis_core.specs.Turn.{Answers, Moves, OnServed, OnUnserved, call_of}
 use Rattle.wbl_engine.specs.CommittingAll.{AreGroups}
 use Rattle.group_commit.specs.Group.{after_work, groups_of, lists_of}
@@ -27,7 +28,7 @@ use Rattle.pipes.specs.Waiting.{Waiting}
 use Rattle.primary.specs.Closing.{ClosesGroup, ClosesList, ClosesOne, MayClose}
 use Rattle.primary.specs.Leading.{Leads}
 use Rattle.primary.specs.Recalling.{AgreeUpTo, Follows, KeepsPast, LeadAlong, Past, Recollects, Remembers}
-use Rattle.primary.proofs.LeadsLemmas.{Leads-group}
+use Rattle.primary.proofs.LeadsLemmas.{Leads-grouped}
 use Rattle.primary.proofs.RecallGroups.{along-more, last-along, remembers-grouped, rises-groups}
 use Rattle.primary.proofs.RecallLemmas.{remembers-later, remembers-listed, remembers-on}
 use Rattle.primary.proofs.CommittedLemmas.{rises_within}
@@ -159,19 +160,36 @@ keeps-told low past contents items aside old new after keeps =
 
 -- ---- a group or a list is closed
 
+-- behind one group more
+module _ (low : ℕ) (past : Past) (contents : Contents) (items : List Work) (aside : List FreeList) (group : Group) (old new : Sequencing) (notices : List Freed)
+    (consistent : IsConsistent contents) (hands : HandsOut old group new) (on : LeadsOn old group new) (leads : Leads contents items aside old notices) where
+  abbrev grouped : List Work
+  grouped = items ++ work.Commit group ∷ []
+
+  remembers-behind : (position : ℕ) → contents.current.position ≡ position → LeadAlong past old.before old.waiting → Remembers low position past contents items aside old
+      → Remembers low position past contents grouped aside new
+  remembers-behind position at waiting remembers =
+      let lists : lists_of grouped ≡ lists_of items = lists_of-append items (work.Commit group ∷ []) ∙ append-nil (lists_of items) in
+      let led = Leads-grouped contents items aside group old new notices consistent hands on leads in
+      remembers-grouped low position past contents (after_work contents grouped) items aside group old new at hands waiting
+      (AreGroups-of-work contents items leads.work_is) leads.stands.before
+      (subst (λ (xs : List FreeList). AreEnded (after_work contents grouped) (entries_of_lists (aside ++ xs) ++ new.ended)) lists led.listed) remembers
+
+  pub keeps-grouped : KeepsPast low past contents items aside old → KeepsPast low past contents grouped aside new
+  keeps-grouped keeps = record {
+    now = keeps.now;
+    follows = subst (Follows past) (sym hands.after) (record { served = keeps.follows.served; waiting = tt });
+    remembers = remembers-behind contents.current.position refl keeps.follows.waiting keeps.remembers;
+  }
+
 module _ (low position : ℕ) (past : Past) (contents : Contents) (before after : Waiting Work) (aside : List FreeList) (old new : Sequencing) (notices : List Freed) (at : contents.current.position ≡ position)
     (consistent : IsConsistent contents) (leads : Leads contents before.items aside old notices) where
   -- behind one group more
   pub remembers-group : ClosesGroup old before new after → LeadAlong past old.before old.waiting → Remembers low position past contents before.items aside old
       → Remembers low position past contents after.items aside new
   remembers-group closes waiting remembers =
-      let lists : lists_of after.items ≡ lists_of before.items =
-      ap lists_of closes.last ∙ lists_of-append before.items (work.Commit closes.group ∷ []) ∙ append-nil (lists_of before.items) in
-      let led = Leads-group contents before after aside old new notices consistent leads closes in
       subst (λ (xs : List Work). Remembers low position past contents xs aside new) (sym closes.last)
-      (remembers-grouped low position past contents (after_work contents after.items) before.items aside closes.group old new at closes.hands waiting
-      (AreGroups-of-work contents before.items leads.work_is) leads.stands.before
-      (subst (λ (xs : List FreeList). AreEnded (after_work contents after.items) (entries_of_lists (aside ++ xs) ++ new.ended)) lists led.listed) remembers)
+      (remembers-behind low past contents before.items aside closes.group old new notices consistent closes.hands closes.leads leads position at waiting remembers)
 
   -- behind one free list more
   pub remembers-list : ClosesList old before new after → Remembers low position past contents before.items aside old → Remembers low position past contents after.items aside new
@@ -182,11 +200,9 @@ module _ (low position : ℕ) (past : Past) (contents : Contents) (before after 
 module _ (low : ℕ) (past : Past) (contents : Contents) (before after : Waiting Work) (aside : List FreeList) (old new : Sequencing) (notices : List Freed)
     (consistent : IsConsistent contents) (leads : Leads contents before.items aside old notices) (keeps : KeepsPast low past contents before.items aside old) where
   keeps-closed : ClosesOne old before new after → KeepsPast low past contents after.items aside new
-  keeps-closed (inl group) = record {
-    now = keeps.now;
-    follows = subst (Follows past) (sym group.hands.after) (record { served = keeps.follows.served; waiting = tt });
-    remembers = remembers-group low contents.current.position past contents before after aside old new notices refl consistent leads group keeps.follows.waiting keeps.remembers;
-  }
+  keeps-closed (inl group) =
+      subst (λ (xs : List Work). KeepsPast low past contents xs aside new) (sym group.last)
+      (keeps-grouped low past contents before.items aside group.group old new notices consistent group.hands group.leads leads keeps)
   keeps-closed (inr list) = record {
     now = keeps.now;
     follows = subst (Follows past) (sym list.hands.after) (record { served = keeps.follows.served; waiting = keeps.follows.waiting });

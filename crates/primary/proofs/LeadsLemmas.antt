@@ -12,7 +12,7 @@ use Rattle.model.specs.declared.work.Work.TheVariants as work
 use Rattle.model.specs.Group.{AreEnded, Contents, IsConsistent, after_group, is_listed}
 use Rattle.wbl_engine.specs.declared.freeing.Freed.{Freed}
 use Rattle.wbl_engine.proofs.WithoutLemmas.{AllEnded}
-use Rattle.redis_core.specs.Sequencing.{Expects, IsAheadOf, Sequencing}
+use Rattle.redis_core.specs.Sequencing.{Expects, HandsOut, IsAheadOf, LeadsOn, Sequencing}
 use Rattle.group_commit.specs.Group.{AreWork, after_groups, after_work, groups_of, lists_before, lists_of}
 use Rattle.group_commit.specs.Working.{IsLawful, entries_of_lists}
 use Rattle.group_commit.proofs.FreedLemmas.{AllEnded-listed, AreEnded-after_group, AreEnded-first, AreEnded-moved, AreEnded-rest, IsConsistent-after_groups}
@@ -35,29 +35,33 @@ AreOfEpoch-push epoch [] group are is = (is, tt)
 AreOfEpoch-push epoch (first ∷ groups) group are is = (are.0, AreOfEpoch-push epoch groups group are.1 is)
 
 -- behind one group more
-pub Leads-group : (contents : Contents) (before after : Waiting Work) (aside : List FreeList) (old new : Sequencing) (notices : List Freed) → IsConsistent contents
-    → Leads contents before.items aside old notices → ClosesGroup old before new after → Leads contents after.items aside new notices
-Leads-group contents before after aside old new notices consistent leads closes =
-    let items = before.items in
-    let group = closes.group in
+pub Leads-grouped : (contents : Contents) (items : List Work) (aside : List FreeList) (group : Group) (old new : Sequencing) (notices : List Freed) → IsConsistent contents
+    → HandsOut old group new → LeadsOn old group new → Leads contents items aside old notices → Leads contents (items ++ work.Commit group ∷ []) aside new notices
+Leads-grouped contents items aside group old new notices consistent hands on leads =
     let all = after_work contents items in
     let sound = IsConsistent-after_groups contents (groups_of items) consistent (AreGroups-of-work contents items leads.work_is) in
-    let stands = closes.leads.stands all leads.stands in
+    let stands = on.stands all leads.stands in
     let moved = after_work-push-group contents items group in
     let lists : lists_of (items ++ work.Commit group ∷ []) ≡ lists_of items = lists_of-append items (work.Commit group ∷ []) ∙ append-nil (lists_of items) in
     let groups = groups_of-append items (work.Commit group ∷ []) in
-    subst (λ (xs : List Work). Leads contents xs aside new notices) (sym closes.last) (record {
+    record {
       work_is = AreWork-push-group contents items group leads.work_is stands.0;
       epochs = subst (AreOfEpoch contents.current.epoch) (sym groups)
-          (AreOfEpoch-push contents.current.epoch (groups_of items) group leads.epochs (closes.hands.epoch ∙ leads.stands.epoch ∙ epoch-after_work contents items leads.epochs));
+          (AreOfEpoch-push contents.current.epoch (groups_of items) group leads.epochs (hands.epoch ∙ leads.stands.epoch ∙ epoch-after_work contents items leads.epochs));
       stands = subst (IsAheadOf new) (sym moved) stands.1;
       expects = subst (λ (c : Contents). Expects new c (entries_told notices) (extents_told notices)) (sym moved)
-          (closes.leads.expects all (entries_told notices) (extents_told notices) leads.stands leads.expects);
+          (on.expects all (entries_told notices) (extents_told notices) leads.stands leads.expects);
       aside_ended = leads.aside_ended;
       listed = subst (λ (c : Contents). AreEnded c (entries_of_lists (aside ++ lists_of (items ++ work.Commit group ∷ [])) ++ new.ended)) (sym moved)
           (subst (λ (xs : List FreeList). AreEnded (after_group all group) (entries_of_lists (aside ++ xs) ++ new.ended)) (sym lists)
-          (closes.leads.lists all (entries_of_lists (aside ++ lists_of items)) leads.stands sound leads.listed));
-    })
+          (on.lists all (entries_of_lists (aside ++ lists_of items)) leads.stands sound leads.listed));
+    }
+
+pub Leads-group : (contents : Contents) (before after : Waiting Work) (aside : List FreeList) (old new : Sequencing) (notices : List Freed) → IsConsistent contents
+    → Leads contents before.items aside old notices → ClosesGroup old before new after → Leads contents after.items aside new notices
+Leads-group contents before after aside old new notices consistent leads closes =
+    subst (λ (xs : List Work). Leads contents xs aside new notices) (sym closes.last)
+    (Leads-grouped contents before.items aside closes.group old new notices consistent closes.hands closes.leads leads)
 
 -- behind one free list more
 pub Leads-list : (contents : Contents) (before after : Waiting Work) (aside : List FreeList) (old new : Sequencing) (notices : List Freed)

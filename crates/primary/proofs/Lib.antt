@@ -17,3 +17,4 @@ pub mod KeptGroups
 pub mod KeptImages
 pub mod FittingLemmas
 pub mod SoundTurns
+pub mod BehindLemmas

@@ -4,3 +4,4 @@ pub mod Resuming
 pub mod Standing
 pub mod Settled
 pub mod Recalling
+pub mod Ahead

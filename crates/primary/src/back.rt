@@ -1,9 +1,10 @@
 //! What of a primary commits.
-ghost use Rattle.std.specs.Prelude.{◌≡◌, ◌⊎◌, ◌↔◌, ◌≤◌, ◌+◌, ◌++◌, ◌==◌, if◌then◌else◌, false, true, nat_lt, ℕ, List, [], None, Some, IfOk, IsErrOf, OnOk};
+ghost use Rattle.std.specs.Prelude.{◌≡◌, ◌⊎◌, ◌↔◌, ◌≤◌, ◌+◌, ◌-◌, ◌++◌, ◌==◌, if◌then◌else◌, false, true, length, nat_lt, ℕ, List, [], None, Some, IfOk, IsErrOf, OnOk};
 ghost use Rattle.pmem.specs.Device.{moment, newest_at};
 ghost use Rattle.pmem.specs.Device.Fences.{Sure};
 ghost use Rattle.pmem.specs.Crash.{IsImage, IsSettled, Keeps, MayLeave, image_of, picked, words_to_crash};
 ghost use Rattle.pmem.specs.Runs.{LeavesOnly};
+ghost use Rattle.pipes.specs.declared.limits.TheConstants.{PIPE_ITEMS};
 ghost use Rattle.model.specs.declared.group.Group.{Group};
 ghost use Rattle.model.specs.declared.image.TheConstants.{MAX_LINES, MIN_LINES};
 ghost use Rattle.model.specs.declared.record.Record.{Record as CommitRecord};
@@ -20,7 +21,7 @@ ghost use Rattle.primary.specs.Standing.{BackStands, notices_of, position_after}
 use group_commit::{Committer, Done, Due};
 use kv_types::Refusal;
 use model::{Group, Record, Work};
-use pipes::{LocalPipe, Outlet};
+use pipes::{LocalPipe, Outlet, PIPE_ITEMS};
 use std::alloc::Global;
 use wbl_engine::{Committed, Durable, Restarting};
 
@@ -75,6 +76,13 @@ impl<E: Durable> Back<E> {
         let is_queued = !self.work.is_empty();
         let is_kept = self.committer.has_aside() | self.committer.has_gap();
         is_queued | is_kept
+    }
+
+    /// How many more items find room in its queue.
+    pub fn room(&self) -> usize
+        ensures { result ≡ PIPE_ITEMS - length self.now.work.items }
+    {
+        PIPE_ITEMS - self.work.len()
     }
 
     /// The step that the next call of `commit` takes, where nothing comes until then; `has_room` is whether the link has room for a group.

@@ -1,6 +1,7 @@
 //! A primary's list, queue and committer, in two parts that may be in threads of their own: what waits for the committer always leads to what the sequencer holds.
 #![tactic(auto)]
 
+mod ahead;
 mod back;
 mod closing;
 mod front;
@@ -9,6 +10,7 @@ mod primary;
 mod restarting;
 mod resuming;
 
+pub use ahead::{close_ahead, take_ahead};
 pub use back::Back;
 pub use front::Front;
 pub use opening::{Opened, open};

@@ -59,9 +59,9 @@ one-more all count any now last came on is goes now_is = record {
   some = now_is ∙ or-true any (does_something came) (something came goes) ∙ sym (nonempty-more all last);
 }
 
-pub ends-here : (all : List (Result Done Refusal)) (count : ℕ) (any now : Bool) (last : Result Done Refusal) (came : Done) → GoOn all count any → count < MOST_STEPS
-    → Ok came ≡ passed_on last → is_passed came ≡ false → now ≡ (any || does_something came) → EndAs (all ++ last ∷ []) (Ok (record { last = came; any = now }))
-ends-here all count any now last came on few is ends now_is = inr (record {
+pub ends-here : (is_for_commits : Bool) (all : List (Result Done Refusal)) (count : ℕ) (any now : Bool) (last : Result Done Refusal) (came : Done) → GoOn all count any → count < MOST_STEPS
+    → Ok came ≡ passed_on last → is_passed came ≡ false → now ≡ (any || does_something came) → EndAs is_for_commits (all ++ last ∷ []) (Ok (record { last = came; any = now }))
+ends-here is_for_commits all count any now last came on few is ends now_is = inr (record {
   before = all;
   last = last;
   in_order = refl;
@@ -72,9 +72,9 @@ ends-here all count any now last came on few is ends now_is = inr (record {
       ap (λ (b : Bool). Ok (record { last = came; any = b })) (now_is ∙ ap (λ (b : Bool). b || does_something came) on.some) ∙ ap (answer_of (is_nonempty all)) is;
 })
 
-pub ends-refused : (all : List (Result Done Refusal)) (count : ℕ) (any : Bool) (last : Result Done Refusal) (cause : Refusal) (answer : Result Stepped Refusal) → GoOn all count any
-    → count < MOST_STEPS → Err cause ≡ passed_on last → answer ≡ Err cause → EndAs (all ++ last ∷ []) answer
-ends-refused all count any last cause answer on few is answered = inr (record {
+pub ends-refused : (is_for_commits : Bool) (all : List (Result Done Refusal)) (count : ℕ) (any : Bool) (last : Result Done Refusal) (cause : Refusal) (answer : Result Stepped Refusal) → GoOn all count any
+    → count < MOST_STEPS → Err cause ≡ passed_on last → answer ≡ Err cause → EndAs is_for_commits (all ++ last ∷ []) answer
+ends-refused is_for_commits all count any last cause answer on few is answered = inr (record {
   before = all;
   last = last;
   in_order = refl;
@@ -84,13 +84,14 @@ ends-refused all count any last cause answer on few is answered = inr (record {
   answer_is = answered ∙ ap (answer_of (is_nonempty all)) is;
 })
 
-some-there : (all : List (Result Done Refusal)) → length all ≡ MOST_STEPS → is_nonempty all ≡ true
+some-there : (all : List (Result Done Refusal)) → 0 < length all → is_nonempty all ≡ true
 some-there [] many = absurd (omega (arith, many))
 some-there (first ∷ all) many = refl
 
-pub ends-most : (all : List (Result Done Refusal)) (count : ℕ) (any : Bool) → GoOn all count any → count ≡ MOST_STEPS → EndAs all (Ok (record { last = done.Idle; any = any }))
-ends-most all count any on most = inl (record {
+pub ends-most : (is_for_commits : Bool) (all : List (Result Done Refusal)) (count : ℕ) (any : Bool) → GoOn all count any → 0 < count → (is_for_commits ≡ false → count ≡ MOST_STEPS)
+    → EndAs is_for_commits all (Ok (record { last = done.Idle; any = any }))
+ends-most is_for_commits all count any on some most = inl (record {
   each = on.each;
-  most = on.many ∙ most;
-  answer_is = ap (λ (b : Bool). Ok (record { last = done.Idle; any = b })) (on.some ∙ some-there all (on.many ∙ most));
+  most = λ none. on.many ∙ most none;
+  answer_is = ap (λ (b : Bool). Ok (record { last = done.Idle; any = b })) (on.some ∙ some-there all (omega (arith, some, on.many)));
 })

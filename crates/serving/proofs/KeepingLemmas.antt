@@ -1,22 +1,26 @@
 -- What the committer's job keeps of the past, step after step and round after round.
-use Rattle.std.proofs.Common.{◌≡◌, ℕ, ◌≤◌, Bool, [], Option, Some, None, Result, Ok, Err, inl, inr, refl, sym, ap, subst, ◌∙◌, arith, le_refl}
+use Rattle.std.proofs.Common.{◌≡◌, ℕ, ◌≤◌, ◌++◌, Bool, List, [], Option, Some, None, Result, Ok, Err, inl, inr, refl, sym, ap, subst, ◌∙◌, arith, le_refl, append-nil}
 use Rattle.pmem.specs.Device.{State}
 use Rattle.pmem.specs.Runs.{LeavesOnly}
 use Rattle.pmem.proofs.Leaving.{LeavesOnly-then, LeavesOnly-weaken, none_leaves}
 use Rattle.kv_types.specs.declared.refusal.Refusal.{Refusal}
+use Rattle.model.specs.declared.work.Work.{Work}
 use Rattle.model.specs.Group.{Contents}
 use Rattle.model.specs.Image.{Image}
 use Rattle.redis_core.specs.Sequencing.{Sequencing}
 use Rattle.group_commit.specs.declared.committer.Committer.{Committer}
 use Rattle.primary.specs.declared.back.Back.{Back}
-use Rattle.primary.specs.Recalling.{AgreeUpTo, AreKeyspaces, BackKeeps, ImageRecalls, Past}
+use Rattle.primary.specs.Ahead.{GoesAhead}
+use Rattle.primary.specs.Recalling.{AgreeUpTo, AreKeyspaces, BackKeeps, ImageRecalls, KeepsPast, Past}
 use Rattle.primary.specs.Standing.{BackStands}
 use Rattle.primary.proofs.KeptImages.{crash-recalls}
-use Rattle.serving.specs.CommitJob.{IsHereOrLent}
-use Rattle.serving.specs.Keeping.{JobKeeps, JobKeepsThrough, JobLeaves, KeepsThrough, PastGoesOn, RunGoesOn, job_of}
+use Rattle.serving.specs.CommitJob.{IsHereOrLent, StandsBehind}
+use Rattle.serving.specs.Keeping.{Held, JobKeeps, JobKeepsThrough, JobLeaves, KeepsBehind, KeepsThrough, PastGoesOn, RunGoesOn, job_of}
 use Rattle.serving.specs.Serving.{Serves}
+use Rattle.serving.specs.declared.ahead.Ahead.{Ahead}
 use Rattle.serving.specs.declared.commit_job.CommitJob.{CommitJob}
 use Rattle.serving.specs.declared.committing.Stepped.{Stepped}
+use Rattle.serving.proofs.HereOrLent.{alone-behind, behind-alone}
 
 module _ {E : Type 0} (device : E → State) (contents : E → Contents) (is_faulted : E → Bool) where
   abbrev Over : Back E → Sequencing → Type 0
@@ -24,7 +28,14 @@ module _ {E : Type 0} (device : E → State) (contents : E → Contents) (is_fau
 
   -- ---- steps
 
-  -- now
+  -- with this behind its queue, now
+  pub behind-leaves : (back : Back E) (behind : List Work) (s : Sequencing) (past : Past) → StandsBehind device contents back behind s → KeepsBehind device contents is_faulted past back behind s
+      → LeavesOnly (device back.committer.engine) (device back.committer.engine) (ImageRecalls past)
+  behind-leaves back behind s past over kept =
+      none_leaves (device back.committer.engine) (ImageRecalls past)
+      (λ image is. crash-recalls past (device back.committer.engine) (contents back.committer.engine) (back.work.items ++ behind) back.committer.aside.items s [] image over kept is)
+
+  -- and with nothing
   back-leaves : (back : Back E) (s : Sequencing) (past : Past) → Over back s → BackKeeps contents past back s
       → LeavesOnly (device back.committer.engine) (device back.committer.engine) (ImageRecalls past)
   back-leaves back s past over kept =
@@ -62,23 +73,37 @@ module _ {E : Type 0} (device : E → State) (contents : E → Contents) (is_fau
   -- ---- a job, wherever it is
 
   abbrev Jobs : Type 0
-  Jobs = Option (CommitJob E)
+  Jobs = Option (Held E)
+
+  -- one that is here
+  abbrev pub here : CommitJob E → Held E
+  here job = record { job = job; behind = [] }
+
+  pub here-keeps : (past : Past) (job : CommitJob E) (s : Sequencing) → BackKeeps contents past job.back s → JobKeeps device contents is_faulted past (Some (here job)) s
+  here-keeps past job s kept =
+      let c = contents job.back.committer.engine in
+      subst (λ (items : List Work). KeepsPast c.current.floor past c items job.back.committer.aside.items s) (sym (append-nil job.back.work.items)) kept
+
+  pub keeps-here : (past : Past) (job : CommitJob E) (s : Sequencing) → JobKeeps device contents is_faulted past (Some (here job)) s → BackKeeps contents past job.back s
+  keeps-here past job s kept =
+      let c = contents job.back.committer.engine in
+      subst (λ (items : List Work). KeepsPast c.current.floor past c items job.back.committer.aside.items s) (append-nil job.back.work.items) kept
 
   abbrev Through : ℕ → Jobs → Sequencing → Jobs → Sequencing → Type 0
   Through = JobKeepsThrough device contents is_faulted
 
   -- the sequencer is ahead of it
   abbrev pub JobStands : Jobs → Sequencing → Type 0
-  JobStands (Some job) s = Over job.back s
+  JobStands (Some held) s = StandsBehind device contents held.job.back held.behind s
   JobStands None s = ⊥
 
-  pub job-stands : (home lent : Jobs) (s : Sequencing) → IsHereOrLent device contents home lent s → JobStands (job_of home lent) s
-  job-stands (Some own) lent s is = is.1
-  job-stands None lent s is = subst (λ (job : Jobs). JobStands job s) (sym is.1) is.2
+  pub job-stands : (home lent : Option (CommitJob E)) (ahead : Ahead) (s : Sequencing) → IsHereOrLent device contents home lent ahead s → JobStands (job_of home lent ahead) s
+  job-stands (Some own) lent ahead s is = alone-behind device contents own.back s is.1
+  job-stands None lent ahead s is = subst (λ (there : Option (CommitJob E)). JobStands (job_of None there ahead) s) (sym is.1) is.2
 
   -- of one that is here
-  pub job-over : (home lent : Jobs) (s : Sequencing) (job : CommitJob E) → home ≡ Some job → IsHereOrLent device contents home lent s → Over job.back s
-  job-over home lent s job here is = (subst (λ (at : Jobs). IsHereOrLent device contents at lent s) here is).1
+  pub job-over : (home lent : Option (CommitJob E)) (ahead : Ahead) (s : Sequencing) (job : CommitJob E) → home ≡ Some job → IsHereOrLent device contents home lent ahead s → Over job.back s
+  job-over home lent ahead s job is_here is = (subst (λ (at : Option (CommitJob E)). IsHereOrLent device contents at lent ahead s) is_here is).1
 
   leaves-then : (P : Image → Type 0) (first second third : Jobs) → JobLeaves device contents is_faulted P first second → JobLeaves device contents is_faulted P second third
       → JobLeaves device contents is_faulted P first third
@@ -95,11 +120,11 @@ module _ {E : Type 0} (device : E → State) (contents : E → Contents) (is_fau
   -- ---- between calls
 
   pub through-same : (remote : ℕ) (job : Jobs) (s : Sequencing) → JobStands job s → Through remote job s job s
-  through-same remote (Some job) s over = record {
+  through-same remote (Some held) s over = record {
     at = refl;
     kept = λ past kept. kept;
     sound = λ sound. sound;
-    leaves = λ sound past kept. back-leaves job.back s past over kept;
+    leaves = λ sound past kept. behind-leaves held.job.back held.behind s past over kept;
   }
   through-same remote None s over = absurd over
 
@@ -127,36 +152,50 @@ module _ {E : Type 0} (device : E → State) (contents : E → Contents) (is_fau
 
   -- what waited was closed, and nothing else was done to the job
   pub through-closed : (remote : ℕ) (job job' : CommitJob E) (s s' : Sequencing) → Over job.back s → job'.back.committer ≡ job.back.committer → s'.position ≡ s.position
-      → ((past : Past) → BackKeeps contents past job.back s → BackKeeps contents past job'.back s') → Through remote (Some job) s (Some job') s'
+      → ((past : Past) → BackKeeps contents past job.back s → BackKeeps contents past job'.back s') → Through remote (Some (here job)) s (Some (here job')) s'
   through-closed remote job job' s s' over committer at keeps =
       let engine : job'.back.committer.engine ≡ job.back.committer.engine = ap (λ (c : Committer E). c.engine) committer in
       record {
         at = at;
-        kept = λ past kept. keeps past kept;
+        kept = λ past kept. here-keeps past job' s' (keeps past (keeps-here past job s kept));
         sound = λ sound. ap is_faulted engine ∙ sound;
         leaves = λ sound past kept.
-            subst (λ (e : E). LeavesOnly (device job.back.committer.engine) (device e) (ImageRecalls past)) (sym engine) (back-leaves job.back s past over kept);
+            subst (λ (e : E). LeavesOnly (device job.back.committer.engine) (device e) (ImageRecalls past)) (sym engine) (back-leaves job.back s past over (keeps-here past job s kept));
       }
 
   -- its steps were taken, and the front was told of what they gave back
   pub through-steps : (remote : ℕ) (job job' : CommitJob E) (s s' : Sequencing) (stepped : Stepped) → job.remote ≤ remote → Over job.back s → job'.came ≡ Ok stepped → s'.position ≡ s.position
       → KeepsThrough device contents is_faulted job.remote job.back job'.came job'.back → ((past : Past) → BackKeeps contents past job'.back s → BackKeeps contents past job'.back s')
-      → Through remote (Some job) s (Some job') s'
+      → Through remote (Some (here job)) s (Some (here job')) s'
   through-steps remote job job' s s' stepped goes_by over came at steps told =
       let did = subst (λ (r : Result Stepped Refusal). KeepsThrough device contents is_faulted job.remote job.back r job'.back) came steps in
       record {
         at = at;
-        kept = λ past kept. told past (did.kept s past over kept);
+        kept = λ past kept. here-keeps past job' s' (told past (did.kept s past over (keeps-here past job s kept)));
         sound = did.sound;
-        leaves = λ sound past kept. did.leaves sound s past over kept;
+        leaves = λ sound past kept. did.leaves sound s past over (keeps-here past job s kept);
+      }
+
+  -- while it is lent a group was closed ahead
+  pub through-ahead : (remote : ℕ) (job : CommitJob E) (before after : List Work) (s s' : Sequencing) → StandsBehind device contents job.back before s → s'.position ≡ s.position → GoesAhead s before s' after
+      → Through remote (Some (record { job = job; behind = before })) s (Some (record { job = job; behind = after })) s'
+  through-ahead remote job before after s s' over at goes =
+      let c = contents job.back.committer.engine in
+      record {
+        at = at;
+        kept = λ past kept. goes.keeps c.current.floor past (device job.back.committer.engine) c job.back.work.items job.back.committer.aside.items [] over kept;
+        sound = λ sound. sound;
+        leaves = λ sound past kept. behind-leaves job.back before s past over kept;
       }
 
   -- ---- while calls are made
 
   job-goes-on : (job : Jobs) (s s' : Sequencing) → JobStands job s → Serves s s' → (past : Past) → AreKeyspaces past → JobKeeps device contents is_faulted past job s
       → (later : Past) × AreKeyspaces later × AgreeUpTo s.position past later × JobKeeps device contents is_faulted later job s'
-  job-goes-on (Some job) s s' over serves past keyspaces kept =
-      serves.goes_on (contents job.back.committer.engine).current.floor past (contents job.back.committer.engine) job.back.work.items job.back.committer.aside.items over.leads keyspaces kept
+  job-goes-on (Some held) s s' over serves past keyspaces kept =
+      let back = held.job.back in
+      let c = contents back.committer.engine in
+      serves.goes_on c.current.floor past c (back.work.items ++ held.behind) back.committer.aside.items over.leads keyspaces kept
   job-goes-on None s s' over serves past keyspaces kept = absurd over
 
   -- a round: connections are served between two looks at the job

@@ -2,6 +2,8 @@ mod AgainLemmas
 mod ClosingLemmas
 mod EndingLemmas
 mod HereOrLent
+mod InHandLemmas
+mod BehindSteps
 mod KeepingLemmas
 mod LinkingLemmas
 mod NeedLemmas
@@ -14,5 +16,6 @@ mod TurnsEnd
 pub mod TurnsLemmas
 mod VisitLemmas
 mod StepActs
+mod FetchLemmas
 mod VisitActs
 mod RoundActs

@@ -11,21 +11,22 @@ use Rattle.group_commit.specs.declared.stage.Done.{Done}
 use Rattle.primary.specs.declared.back.Back.{Back}
 use Rattle.primary.specs.Standing.{BackStands, notices_of}
 use Rattle.serving.specs.declared.committing.Stepped.{Stepped}
-use Rattle.serving.specs.CommitJob.{AreSteps, IsShown, IsShownAfter, IsStep, StandsAfter}
+use Rattle.serving.specs.CommitJob.{AreSteps, IsShown, IsShownAfter, IsStep, StandsAfter, Suits}
 
-module _ {E P : Type 0} (device : E → State) (contents : E → Contents) (is_faulted : E → Bool) (remote : ℕ) where
+module _ {E P : Type 0} (device : E → State) (contents : E → Contents) (is_faulted : E → Bool) (is_for_commits : Bool) (remote : ℕ) where
   pub steps-more : (old between new : Back E) (link at link' : RingOutlet Group P) (all : List (Result Done Refusal)) (came : Result Done Refusal)
-      → AreSteps device contents is_faulted remote old link all between at → IsStep device contents is_faulted remote between at came new link'
-      → AreSteps device contents is_faulted remote old link (all ++ came ∷ []) new link'
-  steps-more old between new link at link' [] came are step = (
+      → AreSteps device contents is_faulted is_for_commits remote old link all between at → IsStep device contents is_faulted remote between at came new link'
+      → Suits device contents is_faulted is_for_commits remote between link' → AreSteps device contents is_faulted is_for_commits remote old link (all ++ came ∷ []) new link'
+  steps-more old between new link at link' [] came are step suits = (
     new,
     link',
     subst (λ (back : Back E). IsStep device contents is_faulted remote back link came new link') are.0
         (subst (λ (end : RingOutlet Group P). IsStep device contents is_faulted remote between end came new link') are.1 step),
+    subst (λ (back : Back E). Suits device contents is_faulted is_for_commits remote back link') are.0 suits,
     (refl, refl),
   )
-  steps-more old between new link at link' (first ∷ all) came are step =
-      (are.0, are.1, are.2, steps-more are.0 between new are.1 at link' all came are.3 step)
+  steps-more old between new link at link' (first ∷ all) came are step suits =
+      (are.0, are.1, are.2, are.3, steps-more are.0 between new are.1 at link' all came are.4 step suits)
 
 module _ {E : Type 0} (device : E → State) (contents : E → Contents) where
   pub stands-after : (old new : Back E) (came : Result Stepped Refusal)

@@ -11,6 +11,7 @@ use Rattle.pipes.specs.Waiting.{Waiting}
 use Rattle.redis_core.specs.Sequencing.{Sequencing}
 use Rattle.serving.specs.Closing.{ClosesBoth, LacksBoth}
 use Rattle.serving.specs.Tending.{ClosesOrLacks, Tends, TendsJob}
+use Rattle.serving.specs.declared.ahead.Ahead.{Ahead}
 use Rattle.serving.specs.declared.commit_job.CommitJob.{CommitJob}
 use Rattle.serving.specs.declared.gathering.Gathering.{Gathering}
 use Rattle.serving.specs.declared.tended.Tended.{Tended}
@@ -31,20 +32,21 @@ pub heard-known : (word before : ℕ) (found : Bool) → word ≡ (if found then
 heard-known word before found is known was = is ∙ ap (λ (b : Bool). if b then 1 else 0) (known was)
 
 module _ {E : Type 0} (device : E → State) (contents : E → Contents) (is_faulted : E → Bool) where
-  pub tends-home : (read : MarkView) (is_short : Bool) (gathering noted : Gathering) (home : Option (CommitJob E)) (job : CommitJob E) (lender : EndView (CommitJob E)) (old : Sequencing)
-      (home' : Option (CommitJob E)) (lender' : EndView (CommitJob E)) (new : Sequencing) (tended : Tended) → home ≡ Some job
-      → TendsJob device contents is_faulted read is_short gathering noted job lender old home' lender' new tended
-      → Tends device contents is_faulted read is_short gathering noted home lender old home' lender' new tended
-  tends-home read is_short gathering noted home job lender old home' lender' new tended is tends =
-      subst (λ (h : Option (CommitJob E)). Tends device contents is_faulted read is_short gathering noted h lender old home' lender' new tended) (sym is) tends
+  pub tends-home : (read : MarkView) (is_short : Bool) (gathering noted : Gathering) (home : Option (CommitJob E)) (job : CommitJob E) (lender : EndView (CommitJob E)) (ahead : Ahead) (old : Sequencing)
+      (home' : Option (CommitJob E)) (lender' : EndView (CommitJob E)) (ahead' : Ahead) (new : Sequencing) (tended : Tended) → home ≡ Some job
+      → TendsJob device contents is_faulted read is_short gathering noted job lender ahead old home' lender' ahead' new tended
+      → Tends device contents is_faulted read is_short gathering noted home lender ahead old home' lender' ahead' new tended
+  tends-home read is_short gathering noted home job lender ahead old home' lender' ahead' new tended is tends =
+      subst (λ (h : Option (CommitJob E)). Tends device contents is_faulted read is_short gathering noted h lender ahead old home' lender' ahead' new tended) (sym is) tends
 
   -- said of other names of the same
-  pub tends-same : (read : MarkView) (short short' : Bool) (gathering gathering' noted : Gathering) (home home1 : Option (CommitJob E)) (lender lender1 : EndView (CommitJob E)) (old : Sequencing)
-      (home' : Option (CommitJob E)) (lender' : EndView (CommitJob E)) (new : Sequencing) (tended : Tended) → short ≡ short' → gathering ≡ gathering' → home ≡ home1 → lender ≡ lender1
-      → Tends device contents is_faulted read short gathering noted home lender old home' lender' new tended
-      → Tends device contents is_faulted read short' gathering' noted home1 lender1 old home' lender' new tended
-  tends-same read short short' gathering gathering' noted home home1 lender lender1 old home' lender' new tended is_short is_gathering is_home is_lender tends =
-      subst (λ (l : EndView (CommitJob E)). Tends device contents is_faulted read short' gathering' noted home1 l old home' lender' new tended) is_lender
-      (subst (λ (h : Option (CommitJob E)). Tends device contents is_faulted read short' gathering' noted h lender old home' lender' new tended) is_home
-      (subst (λ (g : Gathering). Tends device contents is_faulted read short' g noted home lender old home' lender' new tended) is_gathering
-      (subst (λ (s : Bool). Tends device contents is_faulted read s gathering noted home lender old home' lender' new tended) is_short tends)))
+  pub tends-same : (read : MarkView) (short short' : Bool) (gathering gathering' noted : Gathering) (home home1 : Option (CommitJob E)) (lender lender1 : EndView (CommitJob E)) (ahead ahead1 : Ahead) (old : Sequencing)
+      (home' : Option (CommitJob E)) (lender' : EndView (CommitJob E)) (ahead' : Ahead) (new : Sequencing) (tended : Tended) → short ≡ short' → gathering ≡ gathering' → home ≡ home1 → lender ≡ lender1 → ahead ≡ ahead1
+      → Tends device contents is_faulted read short gathering noted home lender ahead old home' lender' ahead' new tended
+      → Tends device contents is_faulted read short' gathering' noted home1 lender1 ahead1 old home' lender' ahead' new tended
+  tends-same read short short' gathering gathering' noted home home1 lender lender1 ahead ahead1 old home' lender' ahead' new tended is_short is_gathering is_home is_lender is_ahead tends =
+      subst (λ (a : Ahead). Tends device contents is_faulted read short' gathering' noted home1 lender1 a old home' lender' ahead' new tended) is_ahead
+      (subst (λ (l : EndView (CommitJob E)). Tends device contents is_faulted read short' gathering' noted home1 l ahead old home' lender' ahead' new tended) is_lender
+      (subst (λ (h : Option (CommitJob E)). Tends device contents is_faulted read short' gathering' noted h lender ahead old home' lender' ahead' new tended) is_home
+      (subst (λ (g : Gathering). Tends device contents is_faulted read short' g noted home lender ahead old home' lender' ahead' new tended) is_gathering
+      (subst (λ (s : Bool). Tends device contents is_faulted read s gathering noted home lender ahead old home' lender' ahead' new tended) is_short tends))))

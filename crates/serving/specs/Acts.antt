@@ -18,7 +18,8 @@ use Rattle.node_steps.specs.Acts.{Act, AreActs, handed_by}
 use Rattle.node_steps.specs.Clauses.{node_of}
 use Rattle.node_steps.specs.Law.{with_seats}
 use Rattle.node_steps.specs.Node.{Node}
-use Rattle.serving.specs.CommitJob.{IsStep}
+use Rattle.serving.specs.CommitJob.{FitsBehind, IsExtended, IsStep}
+use Rattle.serving.specs.declared.ahead.Ahead.{Ahead}
 use Rattle.serving.specs.Places.{connection_at}
 use Rattle.serving.specs.Tending.{TakesRound}
 use Rattle.serving.specs.Visiting.{Admits, floor_of}
@@ -72,10 +73,10 @@ module _ {E : Type 0} (device : E → State) (contents : E → Contents) (is_fau
   abbrev pub SetsAsideInVain : CommitJob E → Type 0
   SetsAsideInVain job = FreesInVain job.remote job.back job.groups
 
-  -- the job is here, or lent, as it was when it was lent
-  abbrev pub IsJob : Option (CommitJob E) → EndView (CommitJob E) → CommitJob E → Type 0
-  IsJob (Some here) lender job = here ≡ job
-  IsJob None lender job = lender.value ≡ Some job
+  -- the job is here, and nothing is ahead; or it is lent, and this is what it was when it was lent, with what is ahead last in its queue
+  abbrev pub IsJob : Option (CommitJob E) → EndView (CommitJob E) → Ahead → CommitJob E → Type 0
+  IsJob (Some here) lender ahead job = (here ≡ job) × (ahead.groups.items ≡ [])
+  IsJob None lender ahead job = (lent : CommitJob E) × (lender.value ≡ Some lent) × FitsBehind lent ahead × IsExtended lent ahead.groups.items job
 
   -- Memory for what is due to be closed was not refused.
   abbrev pub ClosesAll : Tended → Type 0
@@ -85,27 +86,27 @@ module _ {E : Type 0} (device : E → State) (contents : E → Contents) (is_fau
   abbrev pub DoesOrVain : List (Option ℕ) → Sequencing → CommitJob E → List (Option ℕ) → Sequencing → CommitJob E → Type 0
   DoesOrVain seats old job seats' new job' = DoesActs seats old job seats' new job' ⊎ SetsAsideInVain job'
 
-  module _ (known : MarkView) (connections : OpenConnections) (gathering : Gathering) (home : Option (CommitJob E)) (lender : EndView (CommitJob E)) (old : Sequencing)
-      (read : MarkView) (connections' : OpenConnections) (noted : Gathering) (home' : Option (CommitJob E)) (lender' : EndView (CommitJob E)) (new : Sequencing) (is_busy : Bool)
-      (round : TakesRound device contents is_faulted known connections gathering home lender old read connections' noted home' lender' new is_busy) where
+  module _ (known : MarkView) (connections : OpenConnections) (gathering : Gathering) (home : Option (CommitJob E)) (lender : EndView (CommitJob E)) (ahead : Ahead) (old : Sequencing)
+      (read : MarkView) (connections' : OpenConnections) (noted : Gathering) (home' : Option (CommitJob E)) (lender' : EndView (CommitJob E)) (ahead' : Ahead) (new : Sequencing) (is_busy : Bool)
+      (round : TakesRound device contents is_faulted known connections gathering home lender ahead old read connections' noted home' lender' ahead' new is_busy) where
     -- the job as the round found it, as it left it before the connections were served, or as it left it
     abbrev pub IsOfRound : CommitJob E → Type 0
-    IsOfRound at = IsJob round.home1 round.lender1 at ⊎ IsJob round.home2 round.lender2 at ⊎ IsJob home' lender' at
+    IsOfRound at = IsJob round.home1 round.lender1 round.ahead1 at ⊎ IsJob round.home2 round.lender2 round.ahead2 at ⊎ IsJob home' lender' ahead' at
 
     -- The round, from one job to the other, is acts; unless lists went aside in vain in it.
     pub record RoundDoesActs (seats : List (Option ℕ)) (job : CommitJob E) : Type 0 where
       pub seats' : List (Option ℕ)
       pub job' : CommitJob E
-      pub is_job : IsJob home' lender' job'
+      pub is_job : IsJob home' lender' ahead' job'
       pub seated : AreSeated seats' connections'.places.connections.items
       pub does : DoesActs seats old job seats' new job' ⊎ (at : CommitJob E) × IsOfRound at × SetsAsideInVain at
 
   -- A round of the node's thread is a list of acts. Who was admitted in it is this connection of the machine, if it has no seat and nobody else has the one that it got.
   abbrev pub RoundsAreActs : Type 0
   RoundsAreActs =
-      (seats : List (Option ℕ)) (c : ℕ) (known : MarkView) (connections : OpenConnections) (gathering : Gathering) (home : Option (CommitJob E)) (lender : EndView (CommitJob E)) (old : Sequencing)
-      (read : MarkView) (connections' : OpenConnections) (noted : Gathering) (home' : Option (CommitJob E)) (lender' : EndView (CommitJob E)) (new : Sequencing) (is_busy : Bool) (job : CommitJob E)
-      → (round : TakesRound device contents is_faulted known connections gathering home lender old read connections' noted home' lender' new is_busy)
-      → ClosesAll round.before → ClosesAll round.after → IsJob home lender job → AreSeated seats connections.places.connections.items
+      (seats : List (Option ℕ)) (c : ℕ) (known : MarkView) (connections : OpenConnections) (gathering : Gathering) (home : Option (CommitJob E)) (lender : EndView (CommitJob E)) (ahead : Ahead) (old : Sequencing)
+      (read : MarkView) (connections' : OpenConnections) (noted : Gathering) (home' : Option (CommitJob E)) (lender' : EndView (CommitJob E)) (ahead' : Ahead) (new : Sequencing) (is_busy : Bool) (job : CommitJob E)
+      → (round : TakesRound device contents is_faulted known connections gathering home lender ahead old read connections' noted home' lender' ahead' new is_busy)
+      → ClosesAll round.before → ClosesAll round.after → IsJob home lender ahead job → AreSeated seats connections.places.connections.items
       → ((other : ℕ) → ¬ HasSeat seats c other) → ((admits : Admits (floor_of connections round.tended) round.visits.admitted) (d : ℕ) → ¬ HasSeat seats d admits.connection.arrival.seat)
-      → RoundDoesActs known connections gathering home lender old read connections' noted home' lender' new is_busy round seats job
+      → RoundDoesActs known connections gathering home lender ahead old read connections' noted home' lender' ahead' new is_busy round seats job

@@ -1,11 +1,16 @@
 -- What is closed where it is due.
-use Rattle.std.specs.Prelude.{◌≡◌, ◌⊎◌, Bool, true, false, not, ◌&&◌, ◌||◌, ℕ, length}
+use Rattle.std.specs.Prelude.{◌≡◌, ◌⊎◌, ◌+◌, ◌<◌, Bool, true, false, not, ◌&&◌, ◌||◌, ℕ, length, Ok, Err, Result}
+use Rattle.kv_types.specs.declared.refusal.Refusal.{Refusal}
+use Rattle.kv_types.specs.declared.refusal.Refusal.TheVariants as refusal
 use Rattle.model.specs.declared.work.Work.{Work}
 use Rattle.pipes.specs.Waiting.{Waiting}
 use Rattle.extent_heap.specs.Room.{has_room}
 use Rattle.redis_core.specs.Sequencing.{Sequencing}
+use Rattle.primary.specs.Ahead.{MayCloseGroup}
 use Rattle.primary.specs.Closing.{ClosesOne, MayClose}
-use Rattle.serving.specs.Gathering.{is_group_due, is_list_due}
+use Rattle.primary.specs.Closing as one
+use Rattle.serving.specs.Gathering.{is_ahead_due, is_group_due, is_list_due}
+use Rattle.serving.specs.declared.ahead.Ahead.{Ahead}
 use Rattle.serving.specs.declared.closing.TheConstants.{LINES_OF_AN_ENTRY}
 use Rattle.serving.specs.declared.gathering.Gathering.{Gathering}
 use Rattle.serving.specs.declared.gathering.TheConstants.{LISTED_AT_ONCE}
@@ -55,3 +60,19 @@ LacksBoth gathering remote is_short old before new after noted =
     LacksMemory (is_group_due gathering old.position remote is_short) old before new after
     ⊎ ((between : Sequencing) × (middle : Waiting Work) × (is_closed : Bool) × ClosesGroup gathering remote is_short old before between middle noted is_closed
     × LacksMemory (is_list_due noted between.position remote (is_tight is_short is_closed between) (length between.ended)) between middle new after)
+
+-- ---- while the job is lent
+
+-- It is due to close a group ahead, and one more may be.
+pub record AheadIsDue (gathering : Gathering) (remote : ℕ) (old : Sequencing) (before : Ahead) : Type 0 where
+  pub due : is_ahead_due gathering old.position remote ≡ true
+  pub room : 0 < before.room
+  pub may : MayCloseGroup old before.groups
+
+-- The changes that wait are one group more ahead, where that is due, and this is noted; or nothing changed, since it was not, or memory for it was refused.
+abbrev pub ClosesAhead : Gathering → ℕ → Sequencing → Ahead → Sequencing → Ahead → Gathering → Result Bool Refusal → Type 0
+ClosesAhead gathering remote old before new after noted (Ok true) =
+    AheadIsDue gathering remote old before × one.ClosesGroup old before.groups new after.groups × (before.room ≡ after.room + 1) × (noted ≡ record gathering { closed = old.position })
+ClosesAhead gathering remote old before new after noted (Ok false) = (¬ AheadIsDue gathering remote old before) × (new ≡ old) × (after ≡ before) × (noted ≡ gathering)
+ClosesAhead gathering remote old before new after noted (Err cause) =
+    (cause ≡ refusal.Memory) × AheadIsDue gathering remote old before × (new ≡ old) × (after.groups.items ≡ before.groups.items) × (after.room ≡ before.room) × (noted ≡ gathering)

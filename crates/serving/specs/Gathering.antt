@@ -1,5 +1,5 @@
 -- When the changes that wait become a group, and the versions that have ended a free list.
-use Rattle.std.specs.Prelude.{ℕ, ◌-◌, Bool, nat_le, nat_lt, min, ◌&&◌, ◌||◌}
+use Rattle.std.specs.Prelude.{ℕ, ◌-◌, Bool, false, nat_le, nat_lt, min, ◌&&◌, ◌||◌}
 use Rattle.model.specs.declared.group.TheConstants.{MAX_PARTS}
 use Rattle.serving.specs.declared.gathering.Gathering.{Gathering}
 use Rattle.serving.specs.declared.gathering.TheConstants.{IDLE_ROUNDS, LISTED_AT_ONCE, MOST_ON_THE_WAY}
@@ -11,6 +11,10 @@ is_group_due gathering position remote is_short =
     nat_lt 0 (position - gathering.closed)
     && (nat_lt (gathering.closed - remote) MOST_ON_THE_WAY
     && (is_short || nat_le (min (gathering.closed - remote) MAX_PARTS) (position - gathering.closed)))
+
+-- The changes that wait are due to be a group, and as many as one may have.
+abbrev pub is_ahead_due : Gathering → ℕ → ℕ → Bool
+is_ahead_due gathering position remote = nat_le MAX_PARTS (position - gathering.closed) && is_group_due gathering position remote false
 
 -- nothing was done for a while, and the standby has acknowledged all groups
 abbrev pub is_idle : Gathering → ℕ → Bool

@@ -1,20 +1,28 @@
 -- What the committer's job keeps of the keyspaces at which a standby may stand, wherever the job is.
-use Rattle.std.specs.Prelude.{◌≡◌, ◌⊎◌, ℕ, ◌≤◌, Bool, false, [], Option, Some, None, Result, OnOk}
+use Rattle.std.specs.Prelude.{◌≡◌, ◌⊎◌, ℕ, ◌≤◌, ◌++◌, Bool, false, List, [], Option, Some, None, Result, OnOk}
 use Rattle.pmem.specs.Device.{State}
 use Rattle.pmem.specs.Runs.{LeavesOnly}
 use Rattle.kv_types.specs.declared.refusal.Refusal.{Refusal}
+use Rattle.model.specs.declared.work.Work.{Work}
 use Rattle.model.specs.Group.{Contents}
 use Rattle.model.specs.Image.{Image}
 use Rattle.redis_core.specs.Sequencing.{Sequencing}
 use Rattle.primary.specs.declared.back.Back.{Back}
-use Rattle.primary.specs.Recalling.{AgreeUpTo, AreKeyspaces, BackKeeps, ImageRecalls, Past}
+use Rattle.primary.specs.Recalling.{AgreeUpTo, AreKeyspaces, BackKeeps, ImageRecalls, KeepsPast, Past}
 use Rattle.primary.specs.Standing.{BackStands}
+use Rattle.serving.specs.declared.ahead.Ahead.{Ahead}
 use Rattle.serving.specs.declared.commit_job.CommitJob.{CommitJob}
 
--- the job that is here, or else the one that is lent, as it was lent
-abbrev pub job_of : {E : Type 0} → Option (CommitJob E) → Option (CommitJob E) → Option (CommitJob E)
-job_of (Some job) lent = Some job
-job_of None lent = lent
+-- a job, and the groups that go behind its queue once it is here
+pub record Held (E : Type 0) : Type 0 where
+  pub job : CommitJob E
+  pub behind : List Work
+
+-- the job that is here, or else the one that is lent, as it was lent, with what is ahead
+abbrev pub job_of : {E : Type 0} → Option (CommitJob E) → Option (CommitJob E) → Ahead → Option (Held E)
+job_of (Some job) lent ahead = Some (record { job = job; behind = [] })
+job_of None (Some job) ahead = Some (record { job = job; behind = ahead.groups.items })
+job_of None None ahead = None
 
 -- by what is known of an engine
 module _ {E : Type 0} (device : E → State) (contents : E → Contents) (is_faulted : E → Bool) where
@@ -30,30 +38,34 @@ module _ {E : Type 0} (device : E → State) (contents : E → Contents) (is_fau
   -- ---- a job, wherever it is
 
   -- no fence of its device had failed
-  abbrev pub IsSound : Option (CommitJob E) → Type 0
-  IsSound (Some job) = is_faulted job.back.committer.engine ≡ false
+  abbrev pub IsSound : Option (Held E) → Type 0
+  IsSound (Some held) = is_faulted held.job.back.committer.engine ≡ false
   IsSound None = ⊥
 
-  -- what it has in hand keeps the past, with this sequencer
-  abbrev pub JobKeeps : Past → Option (CommitJob E) → Sequencing → Type 0
-  JobKeeps past (Some job) s = BackKeeps contents past job.back s
+  -- what it has in hand, and what is behind, keeps the past, with this sequencer
+  abbrev pub KeepsBehind : Past → Back E → List Work → Sequencing → Type 0
+  KeepsBehind past back behind s =
+      let c = contents back.committer.engine in KeepsPast c.current.floor past c (back.work.items ++ behind) back.committer.aside.items s
+
+  abbrev pub JobKeeps : Past → Option (Held E) → Sequencing → Type 0
+  JobKeeps past (Some held) s = KeepsBehind past held.job.back held.behind s
   JobKeeps past None s = ⊥
 
   -- at any moment from the first to the second a crash left only such images
-  abbrev pub JobLeaves : (Image → Type 0) → Option (CommitJob E) → Option (CommitJob E) → Type 0
-  JobLeaves P (Some old) (Some new) = LeavesOnly (device old.back.committer.engine) (device new.back.committer.engine) P
+  abbrev pub JobLeaves : (Image → Type 0) → Option (Held E) → Option (Held E) → Type 0
+  JobLeaves P (Some old) (Some new) = LeavesOnly (device old.job.back.committer.engine) (device new.job.back.committer.engine) P
   JobLeaves P _ _ = ⊥
 
   -- Of a job that goes by no higher remote mark than this, while nothing is called: what it kept of the past it keeps, and at any moment a crash leaves an
   -- image that recalls it.
-  pub record JobKeepsThrough (remote : ℕ) (job : Option (CommitJob E)) (old : Sequencing) (job' : Option (CommitJob E)) (new : Sequencing) : Type 0 where
+  pub record JobKeepsThrough (remote : ℕ) (job : Option (Held E)) (old : Sequencing) (job' : Option (Held E)) (new : Sequencing) : Type 0 where
     pub at : new.position ≡ old.position
     pub kept : (past : Past) → JobKeeps past job old → JobKeeps past job' new
     pub sound : IsSound job → IsSound job'
     pub leaves : IsSound job → (past : Past) → JobKeeps past job old → JobLeaves (ImageRecalls past) job job'
 
   -- The same where calls were made too: the past goes on, and the image recalls it as it was or as it is.
-  pub record PastGoesOn (remote : ℕ) (job : Option (CommitJob E)) (old : Sequencing) (job' : Option (CommitJob E)) (new : Sequencing) : Type 0 where
+  pub record PastGoesOn (remote : ℕ) (job : Option (Held E)) (old : Sequencing) (job' : Option (Held E)) (new : Sequencing) : Type 0 where
     pub goes_on : (past : Past) → AreKeyspaces past → JobKeeps past job old
         → (later : Past) × AreKeyspaces later × AgreeUpTo old.position past later × JobKeeps later job' new
         × (IsSound job → JobLeaves (λ image. ImageRecalls past image ⊎ ImageRecalls later image) job job')
@@ -61,7 +73,7 @@ module _ {E : Type 0} (device : E → State) (contents : E → Contents) (is_fau
     pub sound : IsSound job → IsSound job'
 
   -- The same over any number of rounds: at any moment the image recalls a past that goes on from the first.
-  pub record RunGoesOn (remote : ℕ) (job : Option (CommitJob E)) (old : Sequencing) (job' : Option (CommitJob E)) (new : Sequencing) : Type 0 where
+  pub record RunGoesOn (remote : ℕ) (job : Option (Held E)) (old : Sequencing) (job' : Option (Held E)) (new : Sequencing) : Type 0 where
     pub goes_on : (past : Past) → AreKeyspaces past → JobKeeps past job old
         → (later : Past) × AreKeyspaces later × AgreeUpTo old.position past later × JobKeeps later job' new
         × (IsSound job → JobLeaves (λ image. (between : Past) × AgreeUpTo old.position past between × ImageRecalls between image) job job')

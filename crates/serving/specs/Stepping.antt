@@ -35,10 +35,10 @@ abbrev pub answer_of : Bool → Result Done Refusal → Result Stepped Refusal
 answer_of any (Ok came) = Ok (record { last = came; any = any || does_something came })
 answer_of any (Err refusal) = Err refusal
 
--- As many steps were taken as are taken at once, and each went on.
-pub record AreMost (all : List (Result Done Refusal)) (answer : Result Stepped Refusal) : Type 0 where
+-- As many steps were taken as are taken at once, or, for commits alone, as many until nothing was in hand; and each went on.
+pub record AreMost (is_for_commits : Bool) (all : List (Result Done Refusal)) (answer : Result Stepped Refusal) : Type 0 where
   pub each : AllByRecursion (λ came. goes_on came ≡ true) all
-  pub most : length all ≡ MOST_STEPS
+  pub most : is_for_commits ≡ false → length all ≡ MOST_STEPS
   pub answer_is : answer ≡ Ok (record { last = done.Idle; any = true })
 
 -- Fewer were taken, and each but the last went on. (There is a last: some step was taken.)
@@ -51,6 +51,6 @@ pub record EndWith (all : List (Result Done Refusal)) (answer : Result Stepped R
   pub ends : goes_on last ≡ false
   pub answer_is : answer ≡ answer_of (is_nonempty before) (passed_on last)
 
--- Steps are taken until one does nothing, gives something back or is refused, or most were taken.
-abbrev pub EndAs : List (Result Done Refusal) → Result Stepped Refusal → Type 0
-EndAs all answer = AreMost all answer ⊎ EndWith all answer
+-- Steps are taken until one does nothing, gives something back or is refused, or most were taken; for commits alone, until nothing is in hand.
+abbrev pub EndAs : Bool → List (Result Done Refusal) → Result Stepped Refusal → Type 0
+EndAs is_for_commits all answer = AreMost is_for_commits all answer ⊎ EndWith all answer

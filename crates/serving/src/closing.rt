@@ -3,14 +3,16 @@ ghost use Rattle.std.specs.Prelude.{◌≡◌, ℕ, [], length, IfOk, IfErr, OnE
 ghost use Rattle.extent_heap.specs.Room.{has_room};
 ghost use Rattle.primary.specs.Recalling.{BackKeeps, Past};
 ghost use Rattle.primary.specs.Standing.{BackStands};
-ghost use Rattle.serving.specs.Closing.{ClosesBoth, ClosesGroup, ClosesList, LacksBoth, LacksMemory};
+ghost use Rattle.primary.specs.Ahead.{GoesAhead};
+ghost use Rattle.serving.specs.Closing.{ClosesAhead, ClosesBoth, ClosesGroup, ClosesList, LacksBoth, LacksMemory};
 ghost use Rattle.serving.specs.Gathering.{is_group_due, is_list_due};
 ghost use Rattle.serving.specs.declared.gathering.TheConstants.{LISTED_AT_ONCE};
 
+use crate::ahead::Ahead;
 use crate::gathering::{Gathering, LISTED_AT_ONCE};
 use kv_types::Refusal;
 use mv_keyspace::Keyspace;
-use primary::{Back, Front, close};
+use primary::{Back, Front, close, close_ahead};
 use std::alloc::Global;
 use wbl_engine::Durable;
 
@@ -46,6 +48,34 @@ pub(crate) fn close_due<E: Durable, K: Keyspace>(
     let is_tight = is_short || (is_closed && !has_ample_room(front));
     let is_listed = close_list(alloc, front, back, gathering, remote, is_tight)?;
     Ok(is_closed || is_listed)
+}
+
+/// Closes the changes that wait as a group while the job is lent, if that is due. It waits until the job is here. Answers whether it did.
+///
+/// # Errors
+///
+/// Only `Memory`: it is closed later.
+pub(crate) fn close_due_ahead<K: Keyspace>(
+    alloc: Global,
+    front: &mut Front<K>,
+    ahead: &mut Ahead,
+    gathering: &mut Gathering,
+    remote: u64,
+) -> Result<bool, Refusal>
+    ensures closes { ClosesAhead gathering.old remote front.old.sequencer ahead.old front.new.sequencer ahead.new gathering.new result }
+    ensures at { front.new.sequencer.position ≡ front.old.sequencer.position }
+    ensures goes { GoesAhead front.old.sequencer ahead.old.groups.items front.new.sequencer ahead.new.groups.items }
+{
+    let position = front.position();
+    if ahead.room == 0 || !gathering.is_ahead_due(position, remote) {
+        return Ok(false);
+    }
+    if !close_ahead(alloc, front, &mut ahead.groups)? {
+        return Ok(false);
+    }
+    ahead.room -= 1;
+    gathering.closed = front.position();
+    Ok(true)
 }
 
 /// Closes the changes that wait as a group, if that is due and the committer's queue has room. Answers whether it did.

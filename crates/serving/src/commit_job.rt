@@ -29,6 +29,8 @@ pub(crate) struct CommitJob<E> {
     pub(crate) marks: ThreadMarks,
     pub(crate) groups: RingOutlet<Group>,
     pub(crate) link: Waker,
+    /// Whether it is lent for what is to be committed, told of and handed on alone: so further groups may wait behind it meanwhile.
+    pub(crate) is_for_commits: bool,
     /// The remote mark, as the node's thread saw it last.
     pub(crate) remote: u64,
     /// What the last steps came to.
@@ -64,19 +66,29 @@ pub(crate) fn run_job<R: Clock, E: Durable>(
         mut marks,
         mut groups,
         link,
+        is_for_commits,
         remote,
         came,
         mut step_time,
     } = job;
     drop(came);
     let start = Instant::now(rt);
-    let came = take_steps(alloc, &mut back, &mut marks, &mut groups, &link, remote);
+    let came = take_steps(
+        alloc,
+        &mut back,
+        &mut marks,
+        &mut groups,
+        &link,
+        remote,
+        is_for_commits,
+    );
     step_time.note(rt, start);
     CommitJob {
         back,
         marks,
         groups,
         link,
+        is_for_commits,
         remote,
         came,
         step_time,

@@ -1,9 +1,11 @@
 //! The committer's steps.
 ghost use Rattle.std.specs.Prelude.{◌≡◌, ◌≤◌, List, [], nat_lt, ◌&&◌, true, Result, IfOk, OnOk};
 ghost use Rattle.kv_types.specs.declared.refusal.Refusal.{Refusal as Cause};
+ghost use Rattle.rtrb.specs.Ring.{known_free};
 ghost use Rattle.group_commit.specs.Due.{due_now};
 ghost use Rattle.group_commit.specs.declared.stage.Done.{Done as Came};
 ghost use Rattle.redis_core.specs.Sequencing.{Sequencing};
+ghost use Rattle.primary.specs.Ahead.{is_of_commit};
 ghost use Rattle.primary.specs.Standing.{BackStands, notices_of, position_after};
 ghost use Rattle.serving.specs.CommitJob.{AreSteps, IsShown, IsStep};
 ghost use Rattle.serving.specs.Keeping.{KeepsThrough};
@@ -14,7 +16,7 @@ use group_commit::{Done, Due};
 use kv_types::Refusal;
 use marks::ThreadMarks;
 use model::Group;
-use pipes::{Outlet, RingOutlet};
+use pipes::RingOutlet;
 use primary::Back;
 use std::alloc::Global;
 use wakes::Waker;
@@ -32,17 +34,10 @@ pub(crate) struct Stepped {
 
 /// Whether a step of the committer is due that does something: a group that was told of is handed on only where the link has room. A free that needs a record
 /// of its own, for its floor, waits for the next commit, which writes one anyway, unless a request waits for room (`is_short`).
-fn is_step_due<E: Durable, O: Outlet<Item = Group>>(
-    back: &Back<E>,
-    groups: &mut O,
-    remote: u64,
-    is_short: bool,
-) -> bool
-    ensures due { let has_room = nat_lt 0 (O.known_room groups.new) in let is_worth = is_free_worth is_short remote (E.contents back.now.committer.engine).current.floor in
+fn is_step_due<E: Durable>(back: &Back<E>, has_room: bool, remote: u64, is_short: bool) -> bool
+    ensures { let is_worth = is_free_worth is_short remote (E.contents back.now.committer.engine).current.floor in
         result ≡ does_step has_room is_worth (due_now E.contents back.now.committer back.now.work has_room remote) }
-    ensures offered { O.offered groups.new ≡ O.offered groups.old }
 {
-    let has_room = groups.room() > 0;
     match back.due(has_room, remote) {
         Due::Nothing => false,
         Due::Hand => has_room,
@@ -52,22 +47,32 @@ fn is_step_due<E: Durable, O: Outlet<Item = Group>>(
 }
 
 /// The same, once the standby was heard; before, none is due.
-pub(crate) fn is_due<E: Durable, O: Outlet<Item = Group>>(
+pub(crate) fn is_due<E: Durable>(
     back: &Back<E>,
-    groups: &mut O,
+    has_room: bool,
     remote: u64,
     is_heard: bool,
     is_short: bool,
 ) -> bool
-    ensures due { let has_room = nat_lt 0 (O.known_room groups.new) in let is_worth = is_free_worth is_short remote (E.contents back.now.committer.engine).current.floor in
+    ensures { let is_worth = is_free_worth is_short remote (E.contents back.now.committer.engine).current.floor in
         result ≡ (is_heard && does_step has_room is_worth (due_now E.contents back.now.committer back.now.work has_room remote)) }
-    ensures offered { O.offered groups.new ≡ O.offered groups.old }
 {
-    let is_step_due = is_step_due(back, groups, remote, is_short);
+    let is_step_due = is_step_due(back, has_room, remote, is_short);
     is_heard && is_step_due
 }
 
-/// Takes steps until nothing is to be done, some are taken, or one gives something back. The local mark is where the engine is, before and after.
+/// Whether the step that is due commits groups, tells of one or hands one on. Without room at the link, whether groups are in hand.
+pub(crate) fn is_commit_due<E: Durable>(back: &Back<E>, has_room: bool, remote: u64) -> bool
+    ensures { result ≡ is_of_commit (due_now E.contents back.now.committer back.now.work has_room remote) }
+{
+    match back.due(has_room, remote) {
+        Due::Commit | Due::Raise | Due::Hand => true,
+        Due::Free | Due::Clear | Due::Nothing => false,
+    }
+}
+
+/// Takes steps until nothing is to be done, some are taken, or one gives something back; where `is_for_commits`, until nothing is in hand.
+/// The local mark is where the engine is, before and after.
 ///
 /// # Errors
 ///
@@ -79,13 +84,16 @@ pub(crate) fn take_steps<E: Durable>(
     groups: &mut RingOutlet<Group>,
     link: &Waker,
     remote: u64,
+    is_for_commits: bool,
 ) -> Result<Stepped, Refusal>
     requires stands { (s : Sequencing) × BackStands E.device E.contents back.old s [] }
     requires shown { IsShown E.device E.contents back.old marks.old }
+    requires first { is_for_commits ≡ true → is_of_commit (due_now E.contents back.old.committer back.old.work (nat_lt 0 (known_free groups.old.producer)) remote) ≡ true }
     ensures stands { IfOk result (λ stepped. (s : Sequencing) → BackStands E.device E.contents back.old s []
         → BackStands E.device E.contents back.new s (notices_of stepped.last)) }
     ensures shown { OnOk result (IsShown E.device E.contents back.new marks.new) }
-    ensures steps { (all : List (Result Came Cause)) × AreSteps E.device E.contents E.is_faulted remote back.old groups.old all back.new groups.new × EndAs all result }
+    ensures steps { (all : List (Result Came Cause)) × AreSteps E.device E.contents E.is_faulted is_for_commits remote back.old groups.old all back.new groups.new
+        × EndAs is_for_commits all result }
     // what was kept of the past is
     ensures past { KeepsThrough E.device E.contents E.is_faulted remote back.old result back.new }
 {
@@ -95,6 +103,11 @@ pub(crate) fn take_steps<E: Durable>(
         any |= is_something(&done);
         if !gives_nothing_back(&done) {
             return Ok(Stepped { last: done, any });
+        }
+        let has_more = is_commit_due(back, false, remote);
+        if is_for_commits & !has_more {
+            let last = Done::Idle;
+            return Ok(Stepped { last, any });
         }
     }
     let last = Done::Idle;

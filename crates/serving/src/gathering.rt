@@ -1,5 +1,5 @@
 //! When the changes that wait become a group, and the versions that have ended a free list.
-ghost use Rattle.std.specs.Prelude.{◌≡◌, ◌+◌, min, if◌then◌else◌};
+ghost use Rattle.std.specs.Prelude.{◌≡◌, ◌+◌, ◌-◌, min, if◌then◌else◌};
 ghost use Rattle.serving.specs.Gathering as spec;
 ghost use Rattle.serving.specs.declared.gathering.TheConstants.{IDLE_ROUNDS};
 
@@ -55,10 +55,25 @@ impl Gathering {
     pub(crate) fn is_group_due(&self, position: u64, remote: u64, is_short: bool) -> bool
         ensures { result ≡ spec.is_group_due self.now position remote is_short }
     {
-        let waiting = position.saturating_sub(self.closed);
+        let waiting = self.waiting(position);
         let on_the_way = self.closed.saturating_sub(remote);
         let is_large = on_the_way.min(MAX_PARTS as u64) <= waiting;
         waiting > 0 && on_the_way < MOST_ON_THE_WAY && (is_short || is_large)
+    }
+
+    /// How many changes up to this position wait to be in a group.
+    fn waiting(&self, position: u64) -> u64
+        ensures { result ≡ position - self.now.closed }
+    {
+        position.saturating_sub(self.closed)
+    }
+
+    /// Whether the changes up to this position that wait become a group while the committer is at work: they are due, and as many as a group may have, so that
+    /// no request is turned before.
+    pub(crate) fn is_ahead_due(&self, position: u64, remote: u64) -> bool
+        ensures { result ≡ spec.is_ahead_due self.now position remote }
+    {
+        self.waiting(position) >= MAX_PARTS as u64 && self.is_group_due(position, remote, false)
     }
 
     /// Whether so many versions that have ended become a free list: no change waits to be in a group before, some have ended, and room is short, or they are

@@ -3,6 +3,7 @@
 
 mod accepting;
 mod again;
+mod ahead;
 mod callers;
 mod closing;
 mod commit_job;

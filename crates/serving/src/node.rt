@@ -1,5 +1,5 @@
 //! The node's thread: it serves the connections, and has committed what they changed and freed what has ended.
-ghost use Rattle.std.specs.Prelude.{◌≡◌, ◌≤◌, ◌↔◌, max, None, false, true, IfOk, IsSome, OnOk, if◌then◌else◌};
+ghost use Rattle.std.specs.Prelude.{◌≡◌, ◌≤◌, ◌↔◌, [], max, None, false, true, IfOk, IsSome, OnOk, if◌then◌else◌};
 ghost use Rattle.marks.specs.declared.view.MarkView.{MarkView};
 ghost use Rattle.placing.specs.Fill.{fill_of};
 ghost use Rattle.primary.specs.Settled.{HasNothingOpen};
@@ -10,9 +10,10 @@ ghost use Rattle.serving.specs.Serving.{HasRead, Serves};
 ghost use Rattle.serving.specs.Tending.{Fetches, TakesRound, Tends};
 ghost use Rattle.serving.specs.Visiting.{ServesRound};
 
-use crate::closing::close_due;
+use crate::ahead::Ahead;
+use crate::closing::{close_due, close_due_ahead};
 use crate::commit_job::{CommitJob, Committing, run_job, settle};
-use crate::committing::{Stepped, is_due};
+use crate::committing::{Stepped, is_commit_due, is_due};
 use crate::gathering::Gathering;
 use crate::open_connections::OpenConnections;
 use crate::step_time::StepTime;
@@ -22,11 +23,11 @@ use group_commit::Done;
 use kv_types::Refusal;
 use lending::Lender;
 use marks::ThreadMarks;
-use model::Group;
+use model::{Group, Work};
 use mv_keyspace::Keyspace;
 use node_log::FillSetter;
-use pipes::RingOutlet;
-use primary::{Back, Front, Primary};
+use pipes::{LocalPipe, Outlet, RingOutlet};
+use primary::{Back, Front, Primary, take_ahead};
 use std::alloc::Global;
 use std::sync::{Arc, Wait};
 use std::time::Clock;
@@ -59,6 +60,8 @@ pub(crate) struct Lent<E: Durable> {
     pub(crate) lender: Lender<CommitJob<E>, Committing<E>>,
     /// Wakes the committer's thread.
     pub(crate) waker: Waker,
+    /// For the groups that are closed while that thread has the job.
+    pub(crate) ahead: LocalPipe<Work>,
 }
 
 /// What the node's thread works with, round by round.
@@ -72,6 +75,8 @@ struct NodeState<E: Durable, K: Keyspace> {
     waker: Waker,
     /// The job, where it is not lent.
     home: Option<CommitJob<E>>,
+    /// What was closed since, where it is.
+    ahead: Ahead,
     gathering: Gathering,
     /// Where it is shown how much the front holds.
     fill: FillSetter,
@@ -87,10 +92,14 @@ pub(crate) fn serve<R: Wait + Clock, E: Durable + Drop, K: Keyspace + Drop>(
 ) -> Stop
     requires stands { Stands E.device E.contents primary }
     requires shown { IsShown E.device E.contents primary.back node.committer_marks }
-    requires none { lent.lender.value ≡ None }
+    requires none { (lent.lender.value ≡ None) × (lent.ahead.items ≡ []) }
 {
     let Primary { front, back } = primary;
-    let Lent { lender, waker } = lent;
+    let Lent {
+        lender,
+        waker,
+        ahead,
+    } = lent;
     let Node {
         connections,
         marks,
@@ -110,6 +119,7 @@ pub(crate) fn serve<R: Wait + Clock, E: Durable + Drop, K: Keyspace + Drop>(
         lender,
         waker,
         home: Some(new_job(back, committer_marks, groups, link)),
+        ahead: Ahead::new(ahead),
         gathering,
         fill,
     };
@@ -127,11 +137,11 @@ fn take_rounds<R: Wait + Clock, E: Durable + Drop, K: Keyspace>(
     sleeper: &Sleeper,
     listener_closed: &Arc<Flag>,
 ) -> Stop
-    requires stands { IsHereOrLent E.device E.contents state.old.home state.old.lender.value state.old.front.sequencer }
+    requires stands { IsHereOrLent E.device E.contents state.old.home state.old.lender.value state.old.ahead state.old.front.sequencer }
     requires remote { (remote_of state.old.home ≤ state.old.marks.remote) × (remote_of state.old.lender.value ≤ state.old.marks.remote) }
     // however many rounds there were: the past that was kept goes on
-    ensures past { result ≡ Stop.ListenerClosed → RunGoesOn E.device E.contents E.is_faulted state.new.marks.remote (job_of state.old.home state.old.lender.value)
-        state.old.front.sequencer (job_of state.new.home state.new.lender.value) state.new.front.sequencer }
+    ensures past { result ≡ Stop.ListenerClosed → RunGoesOn E.device E.contents E.is_faulted state.new.marks.remote (job_of state.old.home state.old.lender.value state.old.ahead)
+        state.old.front.sequencer (job_of state.new.home state.new.lender.value state.new.ahead) state.new.front.sequencer }
 {
     for _ in rt.forever() {
         let is_busy = match take_round(rt, alloc, state) {
@@ -159,20 +169,25 @@ fn take_round<R: Wait + Clock, E: Durable + Drop, K: Keyspace>(
     alloc: Global,
     state: &mut NodeState<E, K>,
 ) -> Result<bool, Refusal>
-    requires stands { IsHereOrLent E.device E.contents state.old.home state.old.lender.value state.old.front.sequencer }
+    requires stands { IsHereOrLent E.device E.contents state.old.home state.old.lender.value state.old.ahead state.old.front.sequencer }
     requires remote { (remote_of state.old.home ≤ state.old.marks.remote) × (remote_of state.old.lender.value ≤ state.old.marks.remote) }
-    ensures stands { OnOk result (IsHereOrLent E.device E.contents state.new.home state.new.lender.value state.new.front.sequencer) }
+    ensures stands { OnOk result (IsHereOrLent E.device E.contents state.new.home state.new.lender.value state.new.ahead state.new.front.sequencer) }
     ensures remote { OnOk result ((remote_of state.new.home ≤ state.new.marks.remote) × (remote_of state.new.lender.value ≤ state.new.marks.remote)) }
     ensures read { HasRead state.old.marks state.new.marks }
     ensures round { IfOk result (TakesRound E.device E.contents E.is_faulted state.old.marks state.old.connections state.old.gathering
-        state.old.home state.old.lender state.old.front.sequencer state.new.marks state.new.connections state.new.gathering
-        state.new.home state.new.lender state.new.front.sequencer) }
+        state.old.home state.old.lender state.old.ahead state.old.front.sequencer state.new.marks state.new.connections state.new.gathering
+        state.new.home state.new.lender state.new.ahead state.new.front.sequencer) }
     // the past that was kept goes on
-    ensures past { OnOk result (PastGoesOn E.device E.contents E.is_faulted state.new.marks.remote (job_of state.old.home state.old.lender.value) state.old.front.sequencer
-        (job_of state.new.home state.new.lender.value) state.new.front.sequencer) }
+    ensures past { OnOk result (PastGoesOn E.device E.contents E.is_faulted state.new.marks.remote (job_of state.old.home state.old.lender.value state.old.ahead) state.old.front.sequencer
+        (job_of state.new.home state.new.lender.value state.new.ahead) state.new.front.sequencer) }
     ensures shown { OnOk result (state.new.fill ≡ fill_of (state.new.front.sequencer).table (state.new.front.sequencer).room) }
 {
-    let fetched = fetch(&mut state.front, &mut state.lender, &mut state.home)?;
+    let fetched = fetch(
+        &mut state.front,
+        &mut state.lender,
+        &mut state.home,
+        &mut state.ahead,
+    )?;
     let before = commit_due(rt, alloc, state)?;
     let served = serve_connections(rt, alloc, state);
     let after = commit_due(rt, alloc, state)?;
@@ -192,6 +207,7 @@ fn serve_connections<R: Wait, E: Durable + Drop, K: Keyspace>(
     ensures waits { state.new.connections.is_short ≡ true → ¬ (HasNothingAtHome E.contents state.new.home × HasNothingOpen state.new.front.sequencer) }
     ensures home { state.new.home ≡ state.old.home }
     ensures lender { state.new.lender ≡ state.old.lender }
+    ensures ahead { state.new.ahead ≡ state.old.ahead }
     ensures gathering { state.new.gathering ≡ state.old.gathering }
     ensures visits { ServesRound state.old.gathering.closed state.old.connections state.new.connections state.old.front.sequencer state.new.front.sequencer }
 {
@@ -214,16 +230,16 @@ fn commit_due<R: Clock, E: Durable + Drop, K: Keyspace>(
     alloc: Global,
     state: &mut NodeState<E, K>,
 ) -> Result<Tended, Refusal>
-    requires stands { IsHereOrLent E.device E.contents state.old.home state.old.lender.value state.old.front.sequencer }
+    requires stands { IsHereOrLent E.device E.contents state.old.home state.old.lender.value state.old.ahead state.old.front.sequencer }
     requires remote { remote_of state.old.lender.value ≤ state.old.marks.remote }
-    ensures stands { OnOk result (IsHereOrLent E.device E.contents state.new.home state.new.lender.value state.new.front.sequencer) }
+    ensures stands { OnOk result (IsHereOrLent E.device E.contents state.new.home state.new.lender.value state.new.ahead state.new.front.sequencer) }
     ensures remote { OnOk result ((remote_of state.new.home ≤ state.new.marks.remote) × (remote_of state.new.lender.value ≤ state.new.marks.remote)) }
     ensures read { HasRead state.old.marks state.new.marks }
     ensures tends { IfOk result (Tends E.device E.contents E.is_faulted state.new.marks state.old.connections.is_short state.old.gathering
-        state.new.gathering state.old.home state.old.lender state.old.front.sequencer state.new.home state.new.lender state.new.front.sequencer) }
+        state.new.gathering state.old.home state.old.lender state.old.ahead state.old.front.sequencer state.new.home state.new.lender state.new.ahead state.new.front.sequencer) }
     ensures connections { state.new.connections ≡ state.old.connections }
-    ensures past { OnOk result (JobKeepsThrough E.device E.contents E.is_faulted state.new.marks.remote (job_of state.old.home state.old.lender.value) state.old.front.sequencer
-        (job_of state.new.home state.new.lender.value) state.new.front.sequencer) }
+    ensures past { OnOk result (JobKeepsThrough E.device E.contents E.is_faulted state.new.marks.remote (job_of state.old.home state.old.lender.value state.old.ahead) state.old.front.sequencer
+        (job_of state.new.home state.new.lender.value state.new.ahead) state.new.front.sequencer) }
 {
     let remote = state.marks.read_remote();
     let is_heard = state.marks.has_heard();
@@ -235,6 +251,7 @@ fn commit_due<R: Clock, E: Durable + Drop, K: Keyspace>(
         &mut state.lender,
         &state.waker,
         &mut state.home,
+        &mut state.ahead,
         &mut state.gathering,
         remote,
         is_heard,
@@ -257,6 +274,7 @@ fn new_job<E>(
         marks,
         groups,
         link,
+        is_for_commits: false,
         remote: 0,
         came: Ok(Stepped { last, any: false }),
         step_time: StepTime::unknown(),
@@ -273,7 +291,7 @@ fn is_room_coming<E: Durable>(home: &Option<CommitJob<E>>) -> bool
     }
 }
 
-/// Takes the job back where the committer's thread is done with it, and tells the front what came of it.
+/// Takes the job back where the committer's thread is done with it, puts what was closed ahead last in its queue, and tells the front what came of it.
 ///
 /// # Errors
 ///
@@ -282,13 +300,14 @@ fn fetch<E: Durable + Drop, K: Keyspace>(
     front: &mut Front<K>,
     lender: &mut Lender<CommitJob<E>, Committing<E>>,
     home: &mut Option<CommitJob<E>>,
+    ahead: &mut Ahead,
 ) -> Result<Fetched, Refusal>
-    requires { IsHereOrLent E.device E.contents home.old lender.old.value front.old.sequencer }
-    ensures stands { OnOk result (IsHereOrLent E.device E.contents home.new lender.new.value front.new.sequencer) }
+    requires { IsHereOrLent E.device E.contents home.old lender.old.value ahead.old front.old.sequencer }
+    ensures stands { OnOk result (IsHereOrLent E.device E.contents home.new lender.new.value ahead.new front.new.sequencer) }
     ensures remote { (remote_of home.new ≤ max (remote_of home.old) (remote_of lender.old.value)) × (remote_of lender.new.value ≤ remote_of lender.old.value) }
-    ensures fetches { IfOk result (Fetches E.device E.contents E.is_faulted home.old lender.old front.old.sequencer home.new lender.new front.new.sequencer) }
-    ensures past { OnOk result (JobKeepsThrough E.device E.contents E.is_faulted (remote_of lender.old.value) (job_of home.old lender.old.value) front.old.sequencer
-        (job_of home.new lender.new.value) front.new.sequencer) }
+    ensures fetches { IfOk result (Fetches E.device E.contents E.is_faulted home.old lender.old ahead.old front.old.sequencer home.new lender.new ahead.new front.new.sequencer) }
+    ensures past { OnOk result (JobKeepsThrough E.device E.contents E.is_faulted (remote_of lender.old.value) (job_of home.old lender.old.value ahead.old) front.old.sequencer
+        (job_of home.new lender.new.value ahead.new) front.new.sequencer) }
 {
     if home.is_some() {
         return Ok(Fetched::Here);
@@ -297,12 +316,16 @@ fn fetch<E: Durable + Drop, K: Keyspace>(
         Ok(job) => job,
         Err(not_yet) => return Ok(Fetched::Away(not_yet)),
     };
+    let mut job = job;
+    take_ahead(&mut ahead.groups, &mut job.back);
+    ahead.room = 0;
     let did = settle(front, &job);
     drop(home.replace(job));
     Ok(Fetched::Back(did?))
 }
 
-/// Closes what is due. Where a step is due then, and steps take long, the job is lent; otherwise its steps are taken here. Before the standby was heard in this
+/// Closes what is due. Where a step is due then, and steps take long, the job is lent; otherwise its steps are taken here. While the job is lent, only what is due ahead
+/// is closed. Before the standby was heard in this
 /// opening (`is_heard`) no step is taken: so a copy of an older image, which the standby is ahead of, stays behind it for good. Answers what was done.
 ///
 /// # Errors
@@ -315,29 +338,35 @@ fn commit<R: Clock, E: Durable + Drop, K: Keyspace>(
     lender: &mut Lender<CommitJob<E>, Committing<E>>,
     waker: &Waker,
     home: &mut Option<CommitJob<E>>,
+    ahead: &mut Ahead,
     gathering: &mut Gathering,
     remote: u64,
     is_heard: bool,
     is_short: bool,
 ) -> Result<Tended, Refusal>
-    requires stands { IsHereOrLent E.device E.contents home.old lender.old.value front.old.sequencer }
+    requires stands { IsHereOrLent E.device E.contents home.old lender.old.value ahead.old front.old.sequencer }
     requires remote { remote_of lender.old.value ≤ remote }
-    ensures stands { OnOk result (IsHereOrLent E.device E.contents home.new lender.new.value front.new.sequencer) }
+    ensures stands { OnOk result (IsHereOrLent E.device E.contents home.new lender.new.value ahead.new front.new.sequencer) }
     // a job that was here goes by this remote mark, and one that was lent by an earlier one
     ensures goes_by { IsSome home.old → OnOk result (GoesBy remote home.new × GoesBy remote lender.new.value) }
     ensures remote { OnOk result ((remote_of home.new ≤ remote) × (remote_of lender.new.value ≤ remote)) }
     ensures tends { (read : MarkView) → read.remote ≡ remote → read.heard ≡ (if is_heard then 1 else 0) → IfOk result (Tends E.device E.contents E.is_faulted read is_short
-        gathering.old gathering.new home.old lender.old front.old.sequencer home.new lender.new front.new.sequencer) }
-    ensures past { OnOk result (JobKeepsThrough E.device E.contents E.is_faulted remote (job_of home.old lender.old.value) front.old.sequencer
-        (job_of home.new lender.new.value) front.new.sequencer) }
+        gathering.old gathering.new home.old lender.old ahead.old front.old.sequencer home.new lender.new ahead.new front.new.sequencer) }
+    ensures past { OnOk result (JobKeepsThrough E.device E.contents E.is_faulted remote (job_of home.old lender.old.value ahead.old) front.old.sequencer
+        (job_of home.new lender.new.value ahead.new) front.new.sequencer) }
 {
     let Some(job) = home.take() else {
-        return Ok(Tended::AWAY);
+        let closed = close_due_ahead(alloc, front, ahead, gathering, remote);
+        return Ok(Tended {
+            closed,
+            job: JobCame::Away,
+        });
     };
     let mut job = job;
     job.remote = remote;
     let closed = close_due(alloc, front, &mut job.back, gathering, remote, is_short);
-    if !is_due(&job.back, &mut job.groups, remote, is_heard, is_short) {
+    let has_room = job.groups.room() > 0;
+    if !is_due(&job.back, has_room, remote, is_heard, is_short) {
         drop(home.replace(job));
         return Ok(Tended {
             closed,
@@ -345,6 +374,8 @@ fn commit<R: Clock, E: Durable + Drop, K: Keyspace>(
         });
     }
     if job.step_time.is_long {
+        job.is_for_commits = is_commit_due(&job.back, has_room, remote);
+        ahead.room = if job.is_for_commits { job.back.room() } else { 0 };
         lender.lend(job);
         waker.wake();
         return Ok(Tended {
@@ -352,6 +383,7 @@ fn commit<R: Clock, E: Durable + Drop, K: Keyspace>(
             job: JobCame::Lent,
         });
     }
+    job.is_for_commits = false;
     let job = run_job(rt, alloc, job);
     let did = settle(front, &job);
     drop(home.replace(job));

@@ -1,5 +1,5 @@
 //! A primary's threads are started.
-ghost use Rattle.std.specs.Prelude.{◌≡◌, None, IfSome};
+ghost use Rattle.std.specs.Prelude.{◌≡◌, [], None, IfSome};
 ghost use Rattle.primary.specs.Resuming.{IsOpened};
 ghost use Rattle.primary.specs.Standing.{Stands};
 ghost use Rattle.links.specs.Ends.{AreOfOneEpoch};
@@ -22,6 +22,7 @@ use lending::{Borrower, lending};
 use links::{AckReceiver, LinkSender};
 use mv_keyspace::Keyspace;
 use node_log::Log;
+use pipes::LocalPipe;
 use pmem::Pmem;
 use primary::{Opened, Primary};
 use std::alloc::Global;
@@ -174,15 +175,20 @@ fn start_committer<
     D: Pmem + Send + 'static,
     E: Durable<Device = D> + Drop + Send + 'static,
 >(rt: R, alloc: Global, wake: Waker, is_wanted: bool) -> Option<Lent<E>>
-    ensures { IfSome result (λ lent. lent.lender.value ≡ None) }
+    ensures { IfSome result (λ lent. (lent.lender.value ≡ None) × (lent.ahead.items ≡ [])) }
 {
     if !is_wanted {
         return None;
     }
     let (sleeper, waker) = new_sleeper(alloc).ok()?;
     let (lender, borrower) = lending::<CommitJob<E>, Committing<E>>(alloc).ok()?;
+    let ahead = LocalPipe::new(alloc).ok()?;
     if is_doing(rt, alloc, borrower, sleeper, wake) {
-        Some(Lent { lender, waker })
+        Some(Lent {
+            lender,
+            waker,
+            ahead,
+        })
     } else {
         None
     }

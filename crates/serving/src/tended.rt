@@ -28,7 +28,7 @@ pub(crate) struct Tended {
 /// What came of the committer's job once what is due is closed.
 #[derive(Clone, Copy)]
 pub(crate) enum JobCame {
-    /// Its thread has it, and nothing was closed.
+    /// Its thread has it.
     Away,
     /// No step is due.
     Rests,
@@ -51,12 +51,6 @@ impl Fetched {
 }
 
 impl Tended {
-    /// The committer's thread has the job.
-    pub(crate) const AWAY: Tended = Tended {
-        closed: Ok(false),
-        job: JobCame::Away,
-    };
-
     /// Whether anything was done.
     pub(crate) fn is_busy(&self) -> bool
         ensures { result ≡ did_tend self.now }

@@ -1,9 +1,13 @@
-use Rattle.std.proofs.Common.{rules, Bool, false, ◌||◌, [], ◌∷◌, ◌++◌, Err, Result, sym, ap, subst, ◌∙◌, arith}
+use Rattle.std.proofs.Common.{rules, ◌≡◌, nat_lt, Bool, false, ◌||◌, [], ◌∷◌, ◌++◌, Err, Result, sym, ap, subst, ◌∙◌, arith}
 use Rattle.std.proofs.lemmas.Result.{err_from_is_err_and}
 use Rattle.kv_types.specs.declared.refusal.Refusal.{Refusal}
 use Rattle.group_commit.specs.declared.stage.Done.{Done}
+use Rattle.rtrb.specs.Ring.{known_free}
+use Rattle.pipes.specs.Ring.{offered_at}
 use Rattle.serving.specs.Keeping.{KeepsThrough}
 use Rattle.serving.proofs.EndingLemmas.{ends-here, ends-most, ends-refused, none-yet, one-more}
+use Rattle.serving.specs.declared.committing.TheConstants.{MOST_STEPS}
+use Rattle.serving.proofs.InHandLemmas.{goes-with, in-hand-now, suits-then}
 use Rattle.serving.proofs.KeepingLemmas.{through-err, through-none, through-ok, through-then}
 use Rattle.serving.proofs.StepsLemmas.{steps-more}
 use Rattle.serving.proofs.committing.take_steps.Goals as goal
@@ -11,7 +15,7 @@ use Rattle.serving.proofs.committing.take_steps.Goals as goal
 pub loop-init : goal.loop-init
 loop-init g c =
     let E = g.E.Durable in
-    (c.requires.stands, c.requires.shown, (λ s over. over), ([], (search rules, search rules), none-yet), through-none E.device E.contents E.is_faulted c.args.remote c.args.back.now false)
+    (c.requires.stands, c.requires.shown, (λ s over. over), ([], (search rules, search rules), none-yet), through-none E.device E.contents E.is_faulted c.args.remote c.args.back.now false, c.requires.first)
 
 pub returns-in_err-done-clause-steps : goal.returns-in_err-done-clause-steps
 returns-in_err-done-clause-steps g c =
@@ -20,9 +24,12 @@ returns-in_err-done-clause-steps g c =
     let step = c.take_step.ensures.step in
     let exit = err_from_is_err_and c.from_residual.result c.from_residual.ensures.1 in (
       before.0 ++ step.0 ∷ [],
-      steps-more E.device E.contents E.is_faulted c.args.remote c.args.back.now c.loop.back c.take_step.new.back c.args.groups.now c.loop.groups c.take_step.new.groups
-          before.0 step.0 before.1 step.1,
-      ends-refused before.0 c.loop.counter c.loop.any step.0 c.in_err-done.field-0.0 c.from_residual.result before.2 (omega (arith, c.loop-test.true))
+      steps-more E.device E.contents E.is_faulted c.args.is_for_commits c.args.remote c.args.back.now c.loop.back c.take_step.new.back c.args.groups.now c.loop.groups c.take_step.new.groups
+          before.0 step.0 before.1 step.1
+          (λ is.
+          suits-then E.device E.contents E.is_faulted offered_at (λ end. known_free end.producer) c.loop.back.committer c.take_step.new.back.committer c.loop.back.work c.take_step.new.back.work
+          c.loop.groups c.take_step.new.groups c.args.remote step.0 step.1 (c.loop.invariant.5 is)),
+      ends-refused c.args.is_for_commits before.0 c.loop.counter c.loop.any step.0 c.in_err-done.field-0.0 c.from_residual.result before.2 (omega (arith, c.loop-test.true))
           (sym c.in_err-done.was ∙ step.2) (exit.1 ∙ ap Err exit.2),
     )
 
@@ -58,9 +65,12 @@ returns-then-not-gives_nothing_back-clause-steps g c =
     let before = c.loop.invariant.3 in
     let step = c.take_step.ensures.step in (
       before.0 ++ step.0 ∷ [],
-      steps-more E.device E.contents E.is_faulted c.args.remote c.args.back.now c.loop.back c.take_step.new.back c.args.groups.now c.loop.groups c.take_step.new.groups
-          before.0 step.0 before.1 step.1,
-      ends-here before.0 c.loop.counter c.loop.any _ step.0 c.in_ok-done.done before.2 (omega (arith, c.loop-test.true)) (sym c.in_ok-done.was ∙ step.2)
+      steps-more E.device E.contents E.is_faulted c.args.is_for_commits c.args.remote c.args.back.now c.loop.back c.take_step.new.back c.args.groups.now c.loop.groups c.take_step.new.groups
+          before.0 step.0 before.1 step.1
+          (λ is.
+          suits-then E.device E.contents E.is_faulted offered_at (λ end. known_free end.producer) c.loop.back.committer c.take_step.new.back.committer c.loop.back.work c.take_step.new.back.work
+          c.loop.groups c.take_step.new.groups c.args.remote step.0 step.1 (c.loop.invariant.5 is)),
+      ends-here c.args.is_for_commits before.0 c.loop.counter c.loop.any _ step.0 c.in_ok-done.done before.2 (omega (arith, c.loop-test.true)) (sym c.in_ok-done.was ∙ step.2)
           (sym c.gives_nothing_back.ensures.passed ∙ search rules) (ap (λ (b : Bool). c.loop.any || b) c.is_something-any.ensures),
     )
 
@@ -78,16 +88,23 @@ loop-preserved g c =
       λ s over. rw nothing at (c.in_ok-done.ensures.stands s (c.loop.invariant.2 s over)),
       (
         before.0 ++ step.0 ∷ [],
-        steps-more E.device E.contents E.is_faulted c.args.remote c.args.back.now c.loop.back c.take_step.new.back c.args.groups.now c.loop.groups c.take_step.new.groups
-            before.0 step.0 before.1 step.1,
+        steps-more E.device E.contents E.is_faulted c.args.is_for_commits c.args.remote c.args.back.now c.loop.back c.take_step.new.back c.args.groups.now c.loop.groups c.take_step.new.groups
+            before.0 step.0 before.1 step.1
+          (λ is.
+          suits-then E.device E.contents E.is_faulted offered_at (λ end. known_free end.producer) c.loop.back.committer c.take_step.new.back.committer c.loop.back.work c.take_step.new.back.work
+          c.loop.groups c.take_step.new.groups c.args.remote step.0 step.1 (c.loop.invariant.5 is)),
         one-more before.0 c.loop.counter c.loop.any _ step.0 c.in_ok-done.done before.2 (sym c.in_ok-done.was ∙ step.2) (sym c.gives_nothing_back.ensures.passed ∙ search rules)
             (ap (λ (b : Bool). c.loop.any || b) c.is_something-any.ensures),
       ),
       through-ok E.device E.contents E.is_faulted c.args.remote c.args.back.now c.take_step.new.back c.in_ok-done.done _
           (subst (λ (r : Result Done Refusal). KeepsThrough E.device E.contents E.is_faulted c.args.remote c.args.back.now r c.take_step.new.back) c.in_ok-done.was past),
+      λ is.
+          in-hand-now E.contents c.take_step.new.back.committer c.take_step.new.back.work c.args.remote
+          (sym c.is_commit_due-has_more.ensures ∙ goes-with c.args.is_for_commits c.is_commit_due-has_more.result (search rules) is) (nat_lt 0 (known_free c.take_step.new.groups.producer)),
     )
 
 pub returns-clause-steps : goal.returns-clause-steps
 returns-clause-steps g c =
     let before = c.loop.invariant.3 in
-    (before.0, before.1, ends-most before.0 c.loop.counter c.loop.any before.2 (omega (arith, c.loop-test.false, c.loop.auto.counter-end)))
+    let most : c.loop.counter ≡ MOST_STEPS = omega (arith, c.loop-test.false, c.loop.auto.counter-end) in
+    (before.0, before.1, ends-most c.args.is_for_commits before.0 c.loop.counter c.loop.any before.2 (omega (arith, most)) (λ none. most))

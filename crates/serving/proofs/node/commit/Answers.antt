@@ -2,7 +2,9 @@ use Rattle.std.proofs.Common.{◌≡◌, ℕ, None, Some, rules, refl, sym, subs
 use Rattle.serving.specs.CommitJob.{IsHereOrLent}
 use Rattle.serving.specs.Keeping.{job_of}
 use Rattle.serving.specs.declared.commit_job.CommitJob.{CommitJob}
-use Rattle.serving.proofs.KeepingLemmas.{job-over, job-stands, job-through-then, through-as, through-closed, through-same, through-steps}
+use Rattle.serving.proofs.HereOrLent.{ahead_closed, alone-behind}
+use Rattle.serving.proofs.KeepingLemmas.{here, job-over, job-stands, job-through-then, through-ahead, through-as, through-closed, through-steps}
+use Rattle.serving.proofs.StepActs.{lent-fits}
 use Rattle.serving.specs.Tending.{ClosesOrLacks}
 use Rattle.serving.proofs.TendingLemmas.{closes-or-lacks, due-by, tends-home}
 use Rattle.serving.proofs.node.commit.Goals as goal
@@ -21,18 +23,18 @@ returns-then-not-is_due-clause-tends g c read is_remote is_heard =
     let E = g.E.Durable in
     let job = c.in-Some.job in
     let closed = c.close_due-closed in
-    tends-home E.device E.contents E.is_faulted read c.args.is_short c.args.gathering.now closed.new.gathering c.args.home.now job c.args.lender.now c.args.front.now.sequencer
-    c.replace.new.self c.args.lender.now closed.new.front.sequencer _ (sym c.take.ensures.value ∙ c.in-Some.is) (record {
-      ready = record { back = closed.new.back; marks = job.marks; groups = c.is_due.new.groups; link = job.link; remote = c.args.remote; came = job.came; step_time = job.step_time };
+    tends-home E.device E.contents E.is_faulted read c.args.is_short c.args.gathering.now closed.new.gathering c.args.home.now job c.args.lender.now c.args.ahead.now c.args.front.now.sequencer
+    c.replace.new.self c.args.lender.now c.args.ahead.now closed.new.front.sequencer _ (sym c.take.ensures.value ∙ c.in-Some.is) (record {
+      ready = record { back = closed.new.back; marks = job.marks; groups = c.room.new.self; link = job.link; is_for_commits = job.is_for_commits; remote = c.args.remote; came = job.came; step_time = job.step_time };
       between = closed.new.front.sequencer;
       closes = subst (λ (mark : ℕ). ClosesOrLacks c.args.gathering.now mark c.args.is_short c.args.front.now.sequencer job.back.work closed.new.front.sequencer closed.new.back.work closed.new.gathering closed.result) (sym is_remote)
           (closes-or-lacks c.args.gathering.now closed.new.gathering c.args.remote c.args.is_short c.args.front.now.sequencer closed.new.front.sequencer job.back.work closed.new.back.work closed.result
           closed.ensures.closes closed.ensures.cause closed.ensures.lacks);
       committer = closed.ensures.committer;
       by = sym is_remote;
-      offered = c.is_due.ensures.offered;
+      offered = c.room.ensures.unchanged;
       times = refl;
-      steps = (due-by read.heard c.args.is_heard _ _ _ is_heard (sym c.is_due.ensures.due) (search rules), c.replace.ensures.after, refl, refl);
+      steps = (due-by read.heard c.args.is_heard _ _ _ is_heard (sym c.is_due.ensures) (search rules), c.replace.ensures.after, refl, refl, refl);
     })
 
 pub returns-then-job-clause-tends : goal.returns-then-job-clause-tends
@@ -40,18 +42,18 @@ returns-then-job-clause-tends g c read is_remote is_heard =
     let E = g.E.Durable in
     let job = c.in-Some.job in
     let closed = c.close_due-closed in
-    tends-home E.device E.contents E.is_faulted read c.args.is_short c.args.gathering.now closed.new.gathering c.args.home.now job c.args.lender.now c.args.front.now.sequencer
-    c.take.new.self c.lend.new.self closed.new.front.sequencer _ (sym c.take.ensures.value ∙ c.in-Some.is) (record {
-      ready = record { back = closed.new.back; marks = job.marks; groups = c.is_due.new.groups; link = job.link; remote = c.args.remote; came = job.came; step_time = job.step_time };
+    tends-home E.device E.contents E.is_faulted read c.args.is_short c.args.gathering.now closed.new.gathering c.args.home.now job c.args.lender.now c.args.ahead.now c.args.front.now.sequencer
+    c.take.new.self c.lend.new.self c.end.ahead closed.new.front.sequencer _ (sym c.take.ensures.value ∙ c.in-Some.is) (record {
+      ready = record { back = closed.new.back; marks = job.marks; groups = c.room.new.self; link = job.link; is_for_commits = job.is_for_commits; remote = c.args.remote; came = job.came; step_time = job.step_time };
       between = closed.new.front.sequencer;
       closes = subst (λ (mark : ℕ). ClosesOrLacks c.args.gathering.now mark c.args.is_short c.args.front.now.sequencer job.back.work closed.new.front.sequencer closed.new.back.work closed.new.gathering closed.result) (sym is_remote)
           (closes-or-lacks c.args.gathering.now closed.new.gathering c.args.remote c.args.is_short c.args.front.now.sequencer closed.new.front.sequencer job.back.work closed.new.back.work closed.result
           closed.ensures.closes closed.ensures.cause closed.ensures.lacks);
       committer = closed.ensures.committer;
       by = sym is_remote;
-      offered = c.is_due.ensures.offered;
+      offered = c.room.ensures.unchanged;
       times = refl;
-      steps = (due-by read.heard c.args.is_heard _ _ _ is_heard (sym c.is_due.ensures.due) (search rules), c.if-job.true, c.take.ensures.after, c.lend.ensures, refl);
+      steps = (due-by read.heard c.args.is_heard _ _ _ is_heard (sym c.is_due.ensures) (search rules), c.if-job.true, c.take.ensures.after, c.lend.ensures, refl, refl);
     })
 
 pub returns-clause-tends : goal.returns-clause-tends
@@ -60,18 +62,18 @@ returns-clause-tends g c read is_remote is_heard =
     let job = c.in-Some.job in
     let closed = c.close_due-closed in
     let told = c.in_ok-did.ensures.told in
-    tends-home E.device E.contents E.is_faulted read c.args.is_short c.args.gathering.now closed.new.gathering c.args.home.now job c.args.lender.now c.args.front.now.sequencer
-    c.replace-2.new.self c.args.lender.now c.settle-did.new.front.sequencer _ (sym c.take.ensures.value ∙ c.in-Some.is) (record {
-      ready = record { back = closed.new.back; marks = job.marks; groups = c.is_due.new.groups; link = job.link; remote = c.args.remote; came = job.came; step_time = job.step_time };
+    tends-home E.device E.contents E.is_faulted read c.args.is_short c.args.gathering.now closed.new.gathering c.args.home.now job c.args.lender.now c.args.ahead.now c.args.front.now.sequencer
+    c.replace-2.new.self c.args.lender.now c.args.ahead.now c.settle-did.new.front.sequencer _ (sym c.take.ensures.value ∙ c.in-Some.is) (record {
+      ready = record { back = closed.new.back; marks = job.marks; groups = c.room.new.self; link = job.link; is_for_commits = job.is_for_commits; remote = c.args.remote; came = job.came; step_time = job.step_time };
       between = closed.new.front.sequencer;
       closes = subst (λ (mark : ℕ). ClosesOrLacks c.args.gathering.now mark c.args.is_short c.args.front.now.sequencer job.back.work closed.new.front.sequencer closed.new.back.work closed.new.gathering closed.result) (sym is_remote)
           (closes-or-lacks c.args.gathering.now closed.new.gathering c.args.remote c.args.is_short c.args.front.now.sequencer closed.new.front.sequencer job.back.work closed.new.back.work closed.result
           closed.ensures.closes closed.ensures.cause closed.ensures.lacks);
       committer = closed.ensures.committer;
       by = sym is_remote;
-      offered = c.is_due.ensures.offered;
+      offered = c.room.ensures.unchanged;
       times = refl;
-      steps = (due-by read.heard c.args.is_heard _ _ _ is_heard (sym c.is_due.ensures.due) (search rules), c.if-job.false, c.run_job-job.result, c.replace-2.ensures.after, refl, (c.run_job-job.ensures, told.0, told.1, told.2, told.3));
+      steps = (due-by read.heard c.args.is_heard _ _ _ is_heard (sym c.is_due.ensures) (search rules), c.if-job.false, c.run_job-job.result, c.replace-2.ensures.after, refl, refl, (c.run_job-job.ensures, told.0, told.1, told.2, told.3));
     })
 
 -- ---- the past
@@ -82,8 +84,8 @@ returns-in_default-clause-past g c =
     let E = g.E.Durable in
     let none : c.args.home.now ≡ None = search rules in
     through-as E.device E.contents E.is_faulted _ _ _ _ _ _ _ refl
-    (ap (λ home. job_of home c.args.lender.now.value) (c.take.ensures.after ∙ sym none))
-    (through-same E.device E.contents E.is_faulted _ _ _ (job-stands E.device E.contents E.is_faulted c.args.home.now c.args.lender.now.value c.args.front.now.sequencer c.requires.stands))
+    (ap (λ home. job_of home c.args.lender.now.value c.args.ahead.now) (c.take.ensures.after ∙ sym none))
+    (through-same E.device E.contents E.is_faulted _ _ _ (job-stands E.device E.contents E.is_faulted c.args.home.now c.args.lender.now.value c.args.ahead.now c.args.front.now.sequencer c.requires.stands))
 
 -- what is due was closed
 pub returns-then-not-is_due-clause-past : goal.returns-then-not-is_due-clause-past
@@ -92,9 +94,9 @@ returns-then-not-is_due-clause-past g c =
     let job = c.in-Some.job in
     let closed = c.close_due-closed in
     let home = sym c.take.ensures.value ∙ c.in-Some.is in
-    through-as E.device E.contents E.is_faulted _ _ (Some job) _ _ _ _ (ap (λ home. job_of home c.args.lender.now.value) home)
-    (ap (λ home. job_of home c.args.lender.now.value) c.replace.ensures.after)
-    (through-closed E.device E.contents E.is_faulted c.args.remote job _ _ _ (job-over E.device E.contents E.is_faulted c.args.home.now c.args.lender.now.value c.args.front.now.sequencer job home c.requires.stands)
+    through-as E.device E.contents E.is_faulted _ _ (Some (here E.device E.contents E.is_faulted job)) _ _ _ _ (ap (λ home. job_of home c.args.lender.now.value c.args.ahead.now) home)
+    (ap (λ home. job_of home c.args.lender.now.value c.args.ahead.now) c.replace.ensures.after)
+    (through-closed E.device E.contents E.is_faulted c.args.remote job _ _ _ (job-over E.device E.contents E.is_faulted c.args.home.now c.args.lender.now.value c.args.ahead.now c.args.front.now.sequencer job home c.requires.stands)
     closed.ensures.committer closed.ensures.at closed.ensures.past)
 
 pub returns-then-job-clause-past : goal.returns-then-job-clause-past
@@ -103,9 +105,9 @@ returns-then-job-clause-past g c =
     let job = c.in-Some.job in
     let closed = c.close_due-closed in
     let home = sym c.take.ensures.value ∙ c.in-Some.is in
-    through-as E.device E.contents E.is_faulted _ _ (Some job) _ _ _ _ (ap (λ home. job_of home c.args.lender.now.value) home)
+    through-as E.device E.contents E.is_faulted _ _ (Some (here E.device E.contents E.is_faulted job)) _ _ _ _ (ap (λ home. job_of home c.args.lender.now.value c.args.ahead.now) home)
     (ap (λ home. job_of home c.lend.new.self.value) c.take.ensures.after ∙ ap (λ end. end.value) c.lend.ensures)
-    (through-closed E.device E.contents E.is_faulted c.args.remote job _ _ _ (job-over E.device E.contents E.is_faulted c.args.home.now c.args.lender.now.value c.args.front.now.sequencer job home c.requires.stands)
+    (through-closed E.device E.contents E.is_faulted c.args.remote job _ _ _ (job-over E.device E.contents E.is_faulted c.args.home.now c.args.lender.now.value c.args.ahead.now c.args.front.now.sequencer job home c.requires.stands)
     closed.ensures.committer closed.ensures.at closed.ensures.past)
 
 -- and the steps were taken
@@ -116,11 +118,11 @@ returns-clause-past g c =
     let closed = c.close_due-closed in
     let home = sym c.take.ensures.value ∙ c.in-Some.is in
     let told = c.in_ok-did.ensures.told in
-    let ready : CommitJob g.row.E.Denot = record { back = closed.new.back; marks = job.marks; groups = c.is_due.new.groups; link = job.link; remote = c.args.remote; came = job.came; step_time = job.step_time } in
-    through-as E.device E.contents E.is_faulted _ _ (Some job) _ (Some c.run_job-job.result) _ _ (ap (λ home. job_of home c.args.lender.now.value) home)
-    (ap (λ home. job_of home c.args.lender.now.value) c.replace-2.ensures.after)
-    (job-through-then E.device E.contents E.is_faulted c.args.remote (Some job) (Some ready) (Some c.run_job-job.result) _ closed.new.front.sequencer _
-    (through-closed E.device E.contents E.is_faulted c.args.remote job ready _ _ (job-over E.device E.contents E.is_faulted c.args.home.now c.args.lender.now.value c.args.front.now.sequencer job home c.requires.stands)
+    let ready : CommitJob g.row.E.Denot = record { back = closed.new.back; marks = job.marks; groups = c.room.new.self; link = job.link; is_for_commits = job.is_for_commits; remote = c.args.remote; came = job.came; step_time = job.step_time } in
+    through-as E.device E.contents E.is_faulted _ _ (Some (here E.device E.contents E.is_faulted job)) _ (Some (here E.device E.contents E.is_faulted c.run_job-job.result)) _ _ (ap (λ home. job_of home c.args.lender.now.value c.args.ahead.now) home)
+    (ap (λ home. job_of home c.args.lender.now.value c.args.ahead.now) c.replace-2.ensures.after)
+    (job-through-then E.device E.contents E.is_faulted c.args.remote (Some (here E.device E.contents E.is_faulted job)) (Some (here E.device E.contents E.is_faulted ready)) (Some (here E.device E.contents E.is_faulted c.run_job-job.result)) _ closed.new.front.sequencer _
+    (through-closed E.device E.contents E.is_faulted c.args.remote job ready _ _ (job-over E.device E.contents E.is_faulted c.args.home.now c.args.lender.now.value c.args.ahead.now c.args.front.now.sequencer job home c.requires.stands)
     closed.ensures.committer closed.ensures.at closed.ensures.past)
     (through-steps E.device E.contents E.is_faulted c.args.remote ready c.run_job-job.result _ _ told.0 (le_refl c.args.remote) closed.ensures.stands told.1 c.settle-did.ensures.at c.run_job-job.ensures.4
     c.settle-did.ensures.past))

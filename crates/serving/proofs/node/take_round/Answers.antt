@@ -13,7 +13,7 @@ commit_due-requires-2-clause-stands g c =
     let E = g.E.Durable in
     let before = c.commit_due.new.state in
     let served = c.serve_connections-served.ensures in
-    rw (served.home, served.lender) (here_or_lent_still E.device E.contents before.home before.lender.value _ _ served.serves.keeps c.in_ok-before.ensures.stands)
+    rw (served.home, served.lender, served.ahead) (here_or_lent_still E.device E.contents before.home before.lender.value before.ahead _ _ served.serves.keeps c.in_ok-before.ensures.stands)
 
 pub returns-clause-round : goal.returns-clause-round
 returns-clause-round g c =
@@ -32,6 +32,7 @@ returns-clause-round g c =
       fetched = c.in_ok-fetched.fetched;
       home1 = c.fetch.new.home;
       lender1 = c.fetch.new.lender;
+      ahead1 = c.fetch.new.ahead;
       told = c.fetch.new.front.sequencer;
       fetches = c.in_ok-fetched.ensures.fetches;
       mark = tended.marks;
@@ -39,6 +40,7 @@ returns-clause-round g c =
       noted1 = tended.gathering;
       home2 = tended.home;
       lender2 = tended.lender;
+      ahead2 = tended.ahead;
       tended = tended.front.sequencer;
       tends = c.in_ok-before.ensures.tends;
       has_served = c.serve_connections-served.result;
@@ -48,8 +50,8 @@ returns-clause-round g c =
           (subst (λ (before : OpenConnections). ServesRound tended.gathering.closed before served.connections tended.front.sequencer served.front.sequencer) c.commit_due.ensures.connections serving.visits);
       after = c.in_ok-after.after;
       tends_again = tends-same E.device E.contents E.is_faulted last.marks served.connections.is_short last.connections.is_short served.gathering tended.gathering last.gathering
-          served.home tended.home served.lender tended.lender served.front.sequencer last.home last.lender last.front.sequencer c.in_ok-after.after
-          (ap (λ (connections : OpenConnections). connections.is_short) (sym still)) serving.gathering serving.home serving.lender c.in_ok-after.ensures.tends;
+          served.home tended.home served.lender tended.lender served.ahead tended.ahead served.front.sequencer last.home last.lender last.ahead last.front.sequencer c.in_ok-after.after
+          (ap (λ (connections : OpenConnections). connections.is_short) (sym still)) serving.gathering serving.home serving.lender serving.ahead c.in_ok-after.ensures.tends;
       rises = (first_read.1, omega (arith, serving.read.1, last_read.1), first_read.2, λ heard. last_read.2 (serving.read.2 heard));
       is_busy_is = cc;
     }
@@ -69,10 +71,10 @@ returns-clause-past g c =
     let last_read = c.commit_due-2.ensures.read in
     let fetching = through-raised E.device E.contents E.is_faulted _ mark _ _ _ _ (omega (arith, c.requires.remote.1, first_read.1, serving.read.1, last_read.1)) c.in_ok-fetched.ensures.past in
     let tending = through-raised E.device E.contents E.is_faulted _ mark _ _ _ _ (omega (arith, serving.read.1, last_read.1)) c.in_ok-before.ensures.past in
-    let again : JobKeepsThrough E.device E.contents E.is_faulted mark (job_of tended.home tended.lender.value) served.front.sequencer (job_of last.home last.lender.value) last.front.sequencer =
-    rw (serving.home, serving.lender) at c.in_ok-after.ensures.past in
-    goes-round E.device E.contents E.is_faulted mark (job_of old.home old.lender.value) (job_of tended.home tended.lender.value) (job_of last.home last.lender.value)
+    let again : JobKeepsThrough E.device E.contents E.is_faulted mark (job_of tended.home tended.lender.value tended.ahead) served.front.sequencer (job_of last.home last.lender.value last.ahead) last.front.sequencer =
+    rw (serving.home, serving.lender, serving.ahead) at c.in_ok-after.ensures.past in
+    goes-round E.device E.contents E.is_faulted mark (job_of old.home old.lender.value old.ahead) (job_of tended.home tended.lender.value tended.ahead) (job_of last.home last.lender.value last.ahead)
     old.front.sequencer tended.front.sequencer served.front.sequencer last.front.sequencer
-    (job-through-then E.device E.contents E.is_faulted mark (job_of old.home old.lender.value) (job_of fetched.home fetched.lender.value) (job_of tended.home tended.lender.value)
+    (job-through-then E.device E.contents E.is_faulted mark (job_of old.home old.lender.value old.ahead) (job_of fetched.home fetched.lender.value fetched.ahead) (job_of tended.home tended.lender.value tended.ahead)
     old.front.sequencer fetched.front.sequencer tended.front.sequencer fetching tending)
-    (job-stands E.device E.contents E.is_faulted tended.home tended.lender.value tended.front.sequencer c.in_ok-before.ensures.stands) serving.serves again
+    (job-stands E.device E.contents E.is_faulted tended.home tended.lender.value tended.ahead tended.front.sequencer c.in_ok-before.ensures.stands) serving.serves again

@@ -9,8 +9,8 @@ loop-init g c =
       c.requires.stands,
       c.requires.remote.0,
       c.requires.remote.1,
-      run-none E.device E.contents E.is_faulted state.marks.remote (job_of state.home state.lender.value) state.front.sequencer
-          (job-stands E.device E.contents E.is_faulted state.home state.lender.value state.front.sequencer c.requires.stands),
+      run-none E.device E.contents E.is_faulted state.marks.remote (job_of state.home state.lender.value state.ahead) state.front.sequencer
+          (job-stands E.device E.contents E.is_faulted state.home state.lender.value state.ahead state.front.sequencer c.requires.stands),
     )
 
 pub loop-preserved : goal.loop-preserved
@@ -22,7 +22,7 @@ loop-preserved g c =
       c.in-Ok.ensures.stands,
       c.in-Ok.ensures.remote.0,
       c.in-Ok.ensures.remote.1,
-      run-more E.device E.contents E.is_faulted after.marks.remote (job_of first.home first.lender.value) (job_of before.home before.lender.value) (job_of after.home after.lender.value)
+      run-more E.device E.contents E.is_faulted after.marks.remote (job_of first.home first.lender.value first.ahead) (job_of before.home before.lender.value before.ahead) (job_of after.home after.lender.value after.ahead)
           first.front.sequencer before.front.sequencer after.front.sequencer
           (run-raised E.device E.contents E.is_faulted before.marks.remote after.marks.remote _ _ _ _ c.take_round.ensures.read.1 c.loop.invariant.3) c.in-Ok.ensures.past,
     )
@@ -35,7 +35,7 @@ returns-then-is_set g c =
     let after = c.take_round.new.state in
     record {
       past = λ is.
-          run-more E.device E.contents E.is_faulted after.marks.remote (job_of first.home first.lender.value) (job_of before.home before.lender.value) (job_of after.home after.lender.value)
+          run-more E.device E.contents E.is_faulted after.marks.remote (job_of first.home first.lender.value first.ahead) (job_of before.home before.lender.value before.ahead) (job_of after.home after.lender.value after.ahead)
           first.front.sequencer before.front.sequencer after.front.sequencer
           (run-raised E.device E.contents E.is_faulted before.marks.remote after.marks.remote _ _ _ _ c.take_round.ensures.read.1 c.loop.invariant.3) c.in-Ok.ensures.past;
     }
