@@ -184,6 +184,7 @@ class Refusals(Newcomers):
                 ("a position", new().words | {word(1): 1}),
                 ("the last position", new().words | {word(1): BOUND - 1}),
                 ("a version", version),
+                ("a version at position 0", version | {8 * 8 + 2: 0, 9 * 8 + 2: 0}),
                 ("epoch 0", new().words | {word(4): 0}),
                 ("role 4", new().words | {word(LAYOUT.role_word): 4}),
                 ("a role of all bits", new().words | {word(LAYOUT.role_word): 2**64 - 1}),

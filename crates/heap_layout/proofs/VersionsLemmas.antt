@@ -1,13 +1,14 @@
 -- What the versions that are read say of the entries of the image.
-use Rattle.std.proofs.Common.{◌≡◌, ℕ, zero, suc, ◌+◌, ◌/◌, ◌<◌, List, [], ◌∷◌, ◌++◌, map, All, Bool, true, false, not, refl, sym, ap, ap₂, ◌∙◌, subst, arith, true≢false, add-one}
+use Rattle.std.proofs.Common.{◌≡◌, ℕ, zero, suc, ◌+◌, ◌/◌, ◌<◌, List, [], ◌∷◌, ◌++◌, map, All, Bool, true, false, not, inl, inr, refl, sym, ap, ap₂, ◌∙◌, subst, arith, true≢false, add-one}
 use Rattle.std.specs.Prelude.{if◌then◌else◌, ◌&&◌, ◌==◌}
-use Rattle.std.proofs.lemmas.Bool.{ne_eqb, eqb-false, cond_both}
+use Rattle.std.proofs.lemmas.Bool.{ne_eqb, eqb-false, cond_both, cases_lt}
 use Rattle.std.proofs.lemmas.List.{map-append}
 use Rattle.std.proofs.lemmas.List.Elements.{filter-append}
 use Rattle.kv_types.specs.declared.place.EntryNo.{EntryNo}
 use Rattle.kv_types.specs.declared.place.Extent.{Extent}
 use Rattle.kv_types.specs.declared.record_id.RecordId.{RecordId}
 use Rattle.model.specs.declared.record.Record.{Record}
+use Rattle.model.specs.declared.record.Role.TheVariants.{Newcomer}
 use Rattle.model.specs.Image.{Image, counts, entries_of_lines, entry_word, entry_bytes, lines_of_bytes}
 use Rattle.model.specs.ReadImage.{is_clash, record_in}
 use Rattle.heap_layout.specs.declared.entry.Entry.{Entry}
@@ -37,7 +38,37 @@ lines-positive : (bytes : ℕ) → 0 < lines_of_bytes bytes
 lines-positive bytes =
     cond_both (bytes == 0) 1 ((bytes + 63) / 64) (λ n. 0 < n) (λ _. omega arith) (λ some. omega (arith, eqb-false bytes 0 some))
 
+-- two lists make an empty one only where both are empty
+both_empty : {X : Type 0} (xs ys : List X) → xs ++ ys ≡ [] → (xs ≡ []) × (ys ≡ [])
+both_empty [] ys e = (refl, e)
+both_empty (x ∷ xs) ys e = cc
+
 module _ (r : Record) (image : Image) where
+  -- none is read just where no begin counts
+  abbrev read_if : ℕ → Bool → List (EntryNo × Entry)
+  read_if i b = if b then (record { 0 = i }, counted_entry r image i) ∷ [] else []
+
+  uncounted_at : (i : ℕ) (b : Bool) → read_if i b ≡ [] → b ≡ false
+  uncounted_at i true e = cc
+  uncounted_at i false e = refl
+
+  uncounted_below : (n : ℕ) → counted_below r image n ≡ [] → (i : ℕ) → i < n → is_counted r image i ≡ false
+  uncounted_below zero none i below = absurd (omega (arith, below))
+  uncounted_below (suc n) none i below =
+      let empty = both_empty (counted_below r image n) (counted_at r image n) none in
+      elim (cases_lt i n) [
+        | inl lower ↦ uncounted_below n empty.0 i lower
+        | inr last ↦
+            let same : n ≡ i = omega (arith, last, below) in
+            subst (λ (k : ℕ). is_counted r image k ≡ false) same (uncounted_at n (is_counted r image n) empty.1)
+      ]
+
+  none_counted : (n : ℕ) → ((i : ℕ) → i < n → is_counted r image i ≡ false) → counted_below r image n ≡ []
+  none_counted zero none = refl
+  none_counted (suc n) none =
+      ap₂ (λ (xs ys : List (EntryNo × Entry)). xs ++ ys) (none_counted n (λ i below. none i (omega (arith, below))))
+      (ap (read_if n) (none n (omega arith)))
+
   runs_at : (i : ℕ) (b : Bool) → runs_of (if b then (record { 0 = i }, counted_entry r image i) ∷ [] else []) ≡ (if b then run_in image i ∷ [] else [])
   runs_at i true = refl
   runs_at i false = refl
@@ -97,14 +128,19 @@ module _ (r : Record) (image : Image) where
         let n = entries_of_lines r.layout lines in
         subst (NoTwo is_clash) (sym (live_ids-counted n)) (NoTwo-picked (is_live r image) (id_in image) is_clash n whole.distinct)
 
+    pub none-AreVersions : AreVersions r lines image → r.role ≡ Newcomer → counted_below r image (entries_of_lines r.layout lines) ≡ []
+    none-AreVersions whole newcomer = none_counted (entries_of_lines r.layout lines) (whole.uncopied newcomer)
+
     pub AreVersions-from_lists : AreUnder r lines image (entries_of_lines r.layout lines)
+        → (r.role ≡ Newcomer → counted_below r image (entries_of_lines r.layout lines) ≡ [])
         → NoTwo overlap (runs_of (counted_below r image (entries_of_lines r.layout lines)))
         → NoTwo is_clash (live_ids (counted_below r image (entries_of_lines r.layout lines))) → AreVersions r lines image
-    AreVersions-from_lists under runs ids =
+    AreVersions-from_lists under none runs ids =
         let n = entries_of_lines r.layout lines in
         let apart = picked-NoTwo (is_counted r image) (run_in image) overlap overlap-flips n (subst (NoTwo overlap) (runs_of-counted n) runs) in
         record {
           entries = under;
           apart = λ i j below below' other p q. apart_from_overlap (run_in image i) (run_in image j) (apart i j below below' other p q);
           distinct = picked-NoTwo (is_live r image) (id_in image) is_clash is_clash-flips n (subst (NoTwo is_clash) (live_ids-counted n) ids);
+          uncopied = λ newcomer. uncounted_below n (none newcomer);
         }

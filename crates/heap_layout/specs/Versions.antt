@@ -7,6 +7,7 @@ use Rattle.heap_layout.specs.declared.entry.Entry.{Entry}
 use Rattle.heap_layout.specs.Entry.{entry_in}
 use Rattle.heap_layout.specs.Version.{IsUnder}
 use Rattle.model.specs.declared.record.Record.{Record}
+use Rattle.model.specs.declared.record.Role.TheVariants.{Newcomer}
 use Rattle.model.specs.Group.{AreApart}
 use Rattle.model.specs.Image.{Image, counts, entries_of_lines, entry_word}
 use Rattle.model.specs.ReadImage.{is_clash, record_in}
@@ -27,14 +28,15 @@ is_gapped r image i = not (image (entry_word i 0) == 0) && not (is_counted r ima
 abbrev pub LieApart : Image → ℕ → ℕ → Type 0
 LieApart image i j = AreApart (image (entry_word i 3)) (image (entry_word i 4)) (image (entry_word j 3)) (image (entry_word j 4))
 
--- The versions of the image break no rule under this record: no entry by itself, no two extents overlap, no record lives twice, and no key
--- has a live string and a live field.
+-- The versions of the image break no rule under this record: no entry by itself, no two extents overlap, no record lives twice, no key has a live string
+-- and a live field, and a newcomer's image has no version.
 pub record AreVersions (r : Record) (lines' : ℕ) (image : Image) : Type 0 where
   pub entries : (i : ℕ) → i < entries_of_lines r.layout lines' → IsUnder r lines' image i
   pub apart : (i j : ℕ) → i < entries_of_lines r.layout lines' → j < entries_of_lines r.layout lines' → i ≢ j
       → IsTrue (is_counted r image i) → IsTrue (is_counted r image j) → LieApart image i j
   pub distinct : (i j : ℕ) → i < entries_of_lines r.layout lines' → j < entries_of_lines r.layout lines' → i ≢ j
       → IsTrue (is_live r image i) → IsTrue (is_live r image j) → is_clash (record_in image i).0 (record_in image j).0 ≡ false
+  pub uncopied : r.role ≡ Newcomer → (i : ℕ) → i < entries_of_lines r.layout lines' → is_counted r image i ≡ false
 
 -- ---- as they are read
 

@@ -1,8 +1,9 @@
 //! All versions of an image, as its record tells of them.
-ghost use Rattle.std.specs.Prelude.{◌≡◌, ℕ, ◌⊎◌, ◌<◌, ◌≤◌, ◌++◌, ◌↔◌, All, IsTrue, map, if◌then◌else◌, IfOk, IfErr, OnOk, IsErrOf};
+ghost use Rattle.std.specs.Prelude.{◌≡◌, ℕ, ◌⊎◌, ◌<◌, ◌≤◌, ◌++◌, ◌↔◌, [], All, IsTrue, map, if◌then◌else◌, IfOk, IfErr, OnOk, IsErrOf};
 ghost use Rattle.kv_types.specs.declared.refusal.Refusal.{Refusal};
 ghost use Rattle.pmem.specs.Crash.{image_of};
 ghost use Rattle.model.specs.declared.image.TheConstants.{MIN_LINES};
+ghost use Rattle.model.specs.declared.record.Role.TheVariants.{Newcomer};
 ghost use Rattle.model.specs.Layout.{directory_room, entries_of_lines};
 ghost use Rattle.model.specs.Image.{counts};
 ghost use Rattle.model.specs.ReadImage.{is_clash};
@@ -14,7 +15,7 @@ use crate::entry::{Entry, read_stamps};
 use crate::tagged::Tagged;
 use crate::version::read_version;
 use kv_types::{EntryNo, Extent, Refusal};
-use model::Record;
+use model::{Record, Role};
 use pmem::Pmem;
 use std::alloc::{AllocError, Global};
 
@@ -43,7 +44,7 @@ impl Versions {
 }
 
 /// Reads all versions of an image under its record. `Damaged` where an entry breaks a rule that `read_version` names, two extents share a
-/// line, a record lives twice, or a key has a live string and a live field. `Memory` if an allocation was refused.
+/// line, a record lives twice, a key has a live string and a live field, or a newcomer's image has a version. `Memory` if an allocation was refused.
 pub fn read_versions<P: Pmem>(
     alloc: Global,
     device: &P,
@@ -58,7 +59,7 @@ pub fn read_versions<P: Pmem>(
 {
     let versions = read_entries(alloc, device, current)?;
     let counted = versions.counted.as_slice();
-    if !lie_apart(alloc, counted)? || !differ(alloc, counted)? {
+    if !suits(current.role, counted) || !lie_apart(alloc, counted)? || !differ(alloc, counted)? {
         return Err(Refusal::Damaged);
     }
     Ok(versions)
@@ -118,6 +119,13 @@ fn with_end(current: &Record, entry: Entry) -> Entry
         return entry;
     }
     Entry { end: 0, ..entry }
+}
+
+/// Whether an image in this role may have these versions: a newcomer's has none.
+fn suits(role: Role, versions: &[(EntryNo, Entry)]) -> bool
+    ensures { IsTrue result ↔ (role ≡ Newcomer → versions.now ≡ []) }
+{
+    role != Role::Newcomer || versions.is_empty()
 }
 
 /// Whether no two of the versions have a line in common.

@@ -98,7 +98,7 @@ module _ (base image : Image) (same : IsButForPair base image) where
           has_record = record_same lines r was.current.has_record;
           lawful = was.current.lawful;
         };
-        versions = versions_same lines r r base image (λ stamp. refl) refl refl (omega arith) (λ i below. alike lines i) was.versions;
+        versions = versions_same lines r r base image (λ stamp. refl) refl refl refl (omega arith) (λ i below. alike lines i) was.versions;
       }
 
   pub version_at_same : (lines : ℕ) (r : Record) → IsUndamaged lines r base → (i : ℕ) → i < entries_of_lines r.layout lines

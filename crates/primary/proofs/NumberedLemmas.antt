@@ -50,6 +50,7 @@ lawful_renumbered number floor c are up below =
       keyspace = are.keyspace;
       lawful = are.lawful;
       map = are.map;
+      uncopied = are.uncopied;
     }
 
 -- under a record that raises the floor

@@ -253,7 +253,8 @@ module _ {E K D : Type 0} (device : E → State) (contents : E → Contents) (is
                 rearranged = rw engine_is (IsRearranged-recorded (contents old.engine) (contents engine) (ap (λ (r : Record). r.position) kept.current) (ap (λ (r : Record). r.epoch) kept.current)
                     (ap (λ (r : Record). r.role) kept.current) (ap (λ (r : Record). r.layout) kept.current) kept.lines_are kept.versions
                     (λ are.
-                    lawful_from (contents old.engine) (contents engine) (rw kept.current are.current) (ap (λ (r : Record). r.layout) kept.current) kept.lines_are kept.versions are));
+                    lawful_from (contents old.engine) (contents engine) (rw kept.current are.current) (ap (λ (r : Record). r.layout) kept.current)
+                    (λ newcomer. ap (λ (r : Record). r.role) (sym kept.current) ∙ newcomer) kept.lines_are kept.versions are));
                 still = λ sound. absurd (sound (ap Err is_fault));
                 sound = λ sound. absurd (sound (ap Err is_fault));
                 durable = λ sound. absurd (sound (ap Err is_fault));

@@ -15,6 +15,7 @@ use Rattle.wbl_engine.proofs.CopyEnding.{copied_is_lawful}
 use Rattle.wbl_engine.proofs.CopyStaging.{with_puts-among, with_puts-none}
 use Rattle.wbl_engine.proofs.GroupSteps.{flip_apart}
 use Rattle.wbl_engine.proofs.LawfulLemmas.{below_limit, some_version}
+use Rattle.wbl_engine.proofs.SuccessorLemmas.{standby_other}
 use Rattle.wbl_engine.proofs.PartEffects.{IsAmong, is_put_at-among}
 use Rattle.wbl_engine.proofs.PutPairs.{among-all}
 
@@ -139,6 +140,7 @@ copy_lawful contents staged position are copy room =
       keyspace = map_below staged entries;
       lawful = distinct_keyspace staged entries distinct;
       map = distinct_map staged entries distinct;
+      uncopied = λ newcomer. absurd (standby_other newcomer);
     }
 
 -- free entries still have no version

@@ -1,7 +1,7 @@
 -- Images that hold what a base held, but for versions that are gone: where stamps were erased or stored, or where another record counts them.
 use Rattle.std.proofs.Common.{◌≡◌, ℕ, zero, suc, ◌+◌, ◌<◌, ◌≤◌, Bool, true, false, not, cond, ◌&&◌, ◌||◌, ◌==◌, IsTrue, inl, inr, List, [], None, Some, refl, sym, ap, subst, ◌∙◌, arith}
 use Rattle.std.specs.Prelude.{nat_lt}
-use Rattle.std.proofs.lemmas.Bool.{and_from, and_parts, cases_lt, cond-true, cond-false, le-ltb, lt-ltb, ltb-true}
+use Rattle.std.proofs.lemmas.Bool.{and_from, and_parts, both_ways, cases_lt, cond-true, cond-false, false_from_ne_true, le-ltb, lt-ltb, ltb-true}
 use Rattle.pmem.specs.Device.{State, Only}
 use Rattle.pmem.specs.Crash.{IsImage, image_of}
 use Rattle.pmem.specs.Runs.{IsStored}
@@ -354,8 +354,8 @@ erased_rest {r} {q} {lines} {gone} {base} {b} many few sound erased lawful up be
 
 -- An image that has lost nothing of an undamaged one is undamaged.
 pub erased_undamaged : {r s : Record} {lines : ℕ} {base image : Image} → IsUndamaged lines r base → IsErased r s lines nothing base image
-    → r.position ≤ s.position → AreBelow s.layout lines image s.cd → IsCurrent lines image s → IsUndamaged lines s image
-erased_undamaged {r} {s} {lines} {base} {image} whole erased up below current =
+    → r.position ≤ s.position → s.role ≡ r.role → AreBelow s.layout lines image s.cd → IsCurrent lines image s → IsUndamaged lines s image
+erased_undamaged {r} {s} {lines} {base} {image} whole erased up role below current =
     let sound = undamaged_sound whole in
     let now = erased_sound sound erased up in
     record {
@@ -384,6 +384,11 @@ erased_undamaged {r} {s} {lines} {base} {image} whole erased up below current =
             ap (λ (p : _). is_clash p.0 (record_in image j).0) (record_in-same base image i (erased.entry i in_i (and_parts (is_counted r base i) _ was_i).0))
             ∙ ap (λ (p : _). is_clash (record_in base i).0 p.0) (record_in-same base image j (erased.entry j in_j (and_parts (is_counted r base j) _ was_j).0))
             ∙ whole.versions.distinct i j in_i in_j other was_i was_j;
+        uncopied = λ newcomer i within.
+            let in_i = old_within sound erased i within in
+            false_from_ne_true (is_counted s image i)
+            (λ begun.
+            both_ways (is_counted r base i) (whole.versions.uncopied (sym role ∙ newcomer) i in_i) (counted_before sound erased i in_i begun));
       };
     }
   where

@@ -66,7 +66,7 @@ module _ {r : Record} {d b : State} {begins ends : List EntryNo} (readable : IsR
       let over =
       written_over (Matters r d.lines (image_of d.words)) (image_of d.words) (image_of b.words) (erase_pairs begins ends) (λ word matters. staged.newest word) in
       let sound = undamaged_sound readable.undamaged in
-      erased_readable readable (erased_over sound (gap_erasing are) nothing (image_of b.words) over (nothing_gone are (image_of b.words))) (omega arith)
+      erased_readable readable (erased_over sound (gap_erasing are) nothing (image_of b.words) over (nothing_gone are (image_of b.words))) (omega arith) refl
       (erased_below sound (gap_erasing are) (image_of b.words) over (undamaged_below readable.undamaged)) readable.undamaged.current.lawful
       staged.stays.lines (staged_recorded readable.many (erase_behind (gap_erasing are)) staged readable.recorded)
       (λ word beside. staged_only (erase_line begins ends) staged word (λ out. readable.certain word beside))

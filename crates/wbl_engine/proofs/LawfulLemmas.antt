@@ -1,6 +1,6 @@
 -- Contents that obey the rules, from the first to the next, and the images that hold them.
 use Rattle.std.proofs.Common.{◌≡◌, ℕ, ◌+◌, ◌<◌, ◌≤◌, true, false, not, List, [], length, inl, inr, None, Some, refl, sym, ap, subst, ◌∙◌, arith}
-use Rattle.std.proofs.lemmas.Bool.{cond-true, cases_lt, and_parts, not-true}
+use Rattle.std.proofs.lemmas.Bool.{cond-true, cases_lt, and_parts, false_from_ne_true, not-true}
 use Rattle.kv_types.proofs.PlayLemmas.{is_keyspace-empty}
 use Rattle.model.specs.declared.group.Group.{Group}
 use Rattle.model.specs.declared.image.TheConstants.{MIN_LINES, MAX_LINES, COUNTER_LIMIT}
@@ -53,6 +53,7 @@ new_lawful lines role epoch' contents new many few some below =
       keyspace = [];
       lawful = is_keyspace-empty;
       map = IsMapOf-none contents.versions (entries_of contents) (λ i within. new.versions i);
+      uncopied = λ newcomer. new.versions;
     }
 
 -- ---- a group
@@ -106,15 +107,17 @@ group_lawful contents group are asked room =
       keyspace = map_below versions entries;
       lawful = distinct_keyspace versions entries distinct;
       map = distinct_map versions entries distinct;
+      uncopied = λ newcomer. absurd (room (inr (inr (inr (inr newcomer)))));
     }
 
 -- ---- contents with the same versions
 
--- they obey the rules, if their record does
-pub lawful_from : (old new : Contents) → IsLawful new.current → new.current.layout ≡ old.current.layout → new.lines ≡ old.lines
+-- they obey the rules, if their record does and is no newcomer's that was none
+pub lawful_from : (old new : Contents) → IsLawful new.current → new.current.layout ≡ old.current.layout
+    → (new.current.role ≡ Newcomer → old.current.role ≡ Newcomer) → new.lines ≡ old.lines
     → ((i : ℕ) → new.versions i ≡ old.versions i)
     → AreLawful old → AreLawful new
-lawful_from old new current layout lines versions are =
+lawful_from old new current layout newcomers lines versions are =
     record {
       many = omega (arith, lines, are.many);
       few = omega (arith, lines, are.few);
@@ -124,11 +127,12 @@ lawful_from old new current layout lines versions are =
       lawful = are.lawful;
       map = subst (λ (n : ℕ). IsMapOf new.versions n are.keyspace) (sym (entries_same old new layout lines))
           (IsMapOf-same old.versions new.versions (entries_of old) are.keyspace (λ i within. sym (versions i)) are.map);
+      uncopied = λ newcomer i. versions i ∙ are.uncopied (newcomers newcomer) i;
     }
 
 pub same_lawful : (old new : Contents) → Same old new → AreLawful old → AreLawful new
 same_lawful old new same are = lawful_from old new (subst IsLawful (sym same.current) are.current) (ap (λ (r : Record). r.layout) same.current)
-    same.lines same.versions are
+    (λ newcomer. ap (λ (r : Record). r.role) (sym same.current) ∙ newcomer) same.lines same.versions are
 
 -- ---- an image
 
@@ -162,5 +166,9 @@ lawful_undamaged contents image are keeps =
             let at_j = live_version contents image keeps j within_j live_j in
             lawful_distinct contents are i j (version_in contents.current image i) (version_in contents.current image j) within_i within_j differ
             at_i.0 at_j.0 at_i.1 at_j.1;
+        uncopied = λ newcomer i within.
+            false_from_ne_true (is_counted contents.current image i)
+            (λ counted.
+            some_version (version_in contents.current image i) (sym (are.uncopied newcomer i) ∙ counted_version contents image keeps i within counted));
       };
     }

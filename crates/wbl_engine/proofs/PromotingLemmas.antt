@@ -70,7 +70,7 @@ lawful_promoted contents are fits =
     lawful_from contents (promoted contents)
     (promoted_is_lawful contents.current are.current (below_limit (contents.current.number + 1) (λ reached. fits (inl reached)))
     (below_limit (contents.current.epoch + 1) (λ reached. fits (inr (inl reached)))))
-    refl refl (λ i. refl) are
+    refl (λ newcomer. absurd (primary_other newcomer)) refl (λ i. refl) are
 
 pub consistent_promoted : (contents : Contents) → IsConsistent contents → IsConsistent (promoted contents)
 consistent_promoted contents consistent = record { free = consistent.free; beyond = consistent.beyond }

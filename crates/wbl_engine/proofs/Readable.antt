@@ -39,7 +39,7 @@ pub erased_stays : {r s : Record} {lines : ℕ} {base image : Image} → IsUndam
 erased_stays {r} {s} whole erased later below current =
     record {
       current = s;
-      undamaged = erased_undamaged whole erased (omega (arith, later.position)) below current;
+      undamaged = erased_undamaged whole erased (omega (arith, later.position)) later.role below current;
       layout = later.layout;
       position = later.position;
       epoch = later.epoch;
@@ -74,9 +74,9 @@ moments_then {r} {s} {d} {b} {c} whole erased later same first second =
 
 -- a device that lost nothing is readable, if each crash leaves the record s, and what loads return beside the records
 pub erased_readable : {r s : Record} {d c : State} → IsReadable r d → IsErased r s d.lines nothing (image_of d.words) (image_of c.words)
-    → r.position ≤ s.position → AreBelow s.layout d.lines (image_of c.words) s.cd → IsLawful s → c.lines ≡ d.lines
+    → r.position ≤ s.position → s.role ≡ r.role → AreBelow s.layout d.lines (image_of c.words) s.cd → IsLawful s → c.lines ≡ d.lines
     → ((image : Image) → IsImage c.words image → HasRecord c.lines s image) → AreCertain (IsBesideRecords r.layout d.lines) c → IsReadable s c
-erased_readable {r} {s} {d} {c} readable erased up below lawful same recorded certain =
+erased_readable {r} {s} {d} {c} readable erased up role below lawful same recorded certain =
     let current : IsCurrent d.lines (image_of c.words) s =
     record {
       version_is = erased.before 1 (omega arith) ∙ readable.undamaged.superblock.version ∙ ap version (sym erased.layout);
@@ -87,7 +87,7 @@ erased_readable {r} {s} {d} {c} readable erased up below lawful same recorded ce
       many = omega (arith, readable.many, same);
       few = omega (arith, readable.few, same);
       undamaged = subst (λ (lines : ℕ). IsUndamaged lines s (image_of c.words)) (sym same)
-          (erased_undamaged readable.undamaged erased up below current);
+          (erased_undamaged readable.undamaged erased up role below current);
       recorded = recorded;
       certain = λ word beside.
           certain word
@@ -173,7 +173,7 @@ module _ {r s : Record} {d : State} (readable : IsReadable r d) (later : IsLater
       let sound = undamaged_sound readable.undamaged in
       let agrees : AgreesOn (Matters r d.lines (image_of d.words)) (image_of d.words) (image_of c.words) =
       λ word matters. recorded.newest word (beside_next s later.layout refl readable.many word (matters_beside sound word matters)) in
-      erased_readable readable (agrees_under s later.layout sound agrees alike) (omega (arith, later.position))
+      erased_readable readable (agrees_under s later.layout sound agrees alike) (omega (arith, later.position)) later.role
       (later_below d.lines (image_of c.words) later (agrees_below r d.lines agrees
       (λ i k within low. let was = undamaged_below readable.undamaged i k within low in omega (arith, was, later.limit))))
       lawful recorded.stays.lines recorded.durable

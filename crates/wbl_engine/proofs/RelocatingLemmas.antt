@@ -32,7 +32,7 @@ use Rattle.wbl_engine.proofs.ClashLemmas.{AreDistinct, distinct_keyspace, distin
 use Rattle.wbl_engine.proofs.CountLemmas.{counts-above}
 use Rattle.wbl_engine.proofs.Erased.{versions-beyond, versions-within}
 use Rattle.wbl_engine.proofs.GroupSteps.{all-from, apart-across, apart-back, apart-prefix, flip_apart}
-use Rattle.wbl_engine.proofs.LawfulLemmas.{below_limit, lawful_distinct}
+use Rattle.wbl_engine.proofs.LawfulLemmas.{below_limit, lawful_distinct, some_version}
 use Rattle.wbl_engine.proofs.PartEffects.{IsAmong, apart-is_put_at, is_put_at-among}
 use Rattle.wbl_engine.proofs.PutPairs.{among-all}
 use Rattle.wbl_engine.proofs.StagingLemmas.{all-back, all-prefix}
@@ -221,6 +221,13 @@ module _ {contents : Contents} {parts : List Part} (consistent : IsConsistent co
             (not_from contents.versions (entries_of contents) (puts_of_parts parts) rooms i over);
       }
 
+-- contents without versions have none to move
+nothing_moves : (contents : Contents) (parts : List Part) → IsRelocation contents parts → ((i : ℕ) → contents.versions i ≡ None) → ⊥
+nothing_moves contents [] asked none = omega (arith, asked.some)
+nothing_moves contents (part ∷ parts) asked none =
+    let again : MakesAgain contents.versions part = asked.each.1 in
+    some_version again.version (sym (none again.entry) ∙ again.held)
+
 pub relocated_lawful : (contents : Contents) (parts : List Part) → AreLawful contents → IsRelocation contents parts
     → (ExhaustsRelocation (length parts) contents.current → ⊥) → AreLawful (after_relocation contents parts)
 relocated_lawful contents parts are asked room =
@@ -246,6 +253,7 @@ relocated_lawful contents parts are asked room =
       keyspace = map_below versions entries;
       lawful = distinct_keyspace versions entries distinct;
       map = distinct_map versions entries distinct;
+      uncopied = λ newcomer. absurd (nothing_moves contents parts asked (are.uncopied newcomer));
     }
 
 -- ---- one part alone

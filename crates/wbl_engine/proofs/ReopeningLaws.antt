@@ -23,7 +23,7 @@ use Rattle.wbl_engine.proofs.GapLemmas.{lawful_but_one}
 use Rattle.wbl_engine.proofs.LawfulLemmas.{lawful_undamaged, some_version}
 use Rattle.wbl_engine.proofs.ReadingLemmas.{undamaged_unique}
 use Rattle.wbl_engine.proofs.Reopened.{open_lawful}
-use Rattle.wbl_engine.proofs.RoomLemmas.{HasLimits, cleared_uncounted, has_limits, room_cases, room_layout}
+use Rattle.wbl_engine.proofs.RoomLemmas.{HasLimits, cleared_uncounted, has_limits, room_cases, room_layout, room_role}
 
 -- ---- the contents
 
@@ -117,6 +117,14 @@ reopening_lawful old new image role counted gapped are keeps reopens =
       lawful = are.lawful;
       map = subst (λ (entries : ℕ). IsMapOf new.versions entries are.keyspace) (sym (new_entries reopens ∙ old_entries are keeps reopens))
           (IsMapOf-same old.versions new.versions (entries_of old) are.keyspace (λ i within. sym (same_versions are keeps reopens i within)) are.map);
+      uncopied = λ newcomer i.
+          let none = are.uncopied
+          (ap (λ (r : Record). r.role) (sym (same_record are keeps reopens)) ∙ sym (room_role reopens.before)
+          ∙ ap (λ (r : Record). r.role) (sym reopens.current) ∙ newcomer) in
+          elim (cases_lt i (entries_of old)) [
+            | inl within ↦ same_versions are keeps reopens i within ∙ none i
+            | inr beyond ↦ none_beyond reopens i (omega (arith, beyond, old_entries are keeps reopens))
+          ];
     }
 
 -- ---- refusals

@@ -33,6 +33,9 @@ room_cases r =
 pub room_layout : (r : Record) → (with_room r).layout ≡ r.layout
 room_layout r = elim (room_cases r) [ inl full ↦ ap (λ (q : Record). q.layout) full.1 | inr roomy ↦ ap (λ (q : Record). q.layout) roomy.1 ]
 
+pub room_role : (r : Record) → (with_room r).role ≡ r.role
+room_role r = elim (room_cases r) [ inl full ↦ ap (λ (q : Record). q.role) full.1 | inr roomy ↦ ap (λ (q : Record). q.role) roomy.1 ]
+
 -- a word beside the records stays beside them
 pub beside_room : (r roomy : Record) (lines lines' word : ℕ) → roomy ≡ with_room r → lines' ≡ lines → IsBesideRecords r.layout lines word
     → IsBesideRecords roomy.layout lines' word

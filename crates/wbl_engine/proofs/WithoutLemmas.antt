@@ -81,6 +81,10 @@ pub IsMapOf-contents_without : (contents : Contents) (gone : ℕ → Bool) (s : 
     → IsMapOf (without gone contents).versions (entries_of contents) s
 IsMapOf-contents_without contents gone s ended map = IsMapOf-without gone contents.versions (entries_of contents) s ended map
 
+still_none : (gone : Bool) (old : Option Version) → old ≡ None → cond gone None old ≡ None
+still_none true old none = refl
+still_none false old none = none
+
 pub lawful_without : (contents : Contents) (gone : ℕ → Bool) → ((i : ℕ) → IsTrue (gone i) → IsTrue (is_ended_version (contents.versions i)))
     → AreLawful contents → AreLawful (without gone contents)
 lawful_without contents gone ended are =
@@ -93,11 +97,8 @@ lawful_without contents gone ended are =
       keyspace = are.keyspace;
       lawful = are.lawful;
       map = IsMapOf-contents_without contents gone are.keyspace ended are.map;
+      uncopied = λ newcomer i. still_none (gone i) (contents.versions i) (are.uncopied newcomer i);
     }
-
-still_none : (gone : Bool) (old : Option Version) → old ≡ None → cond gone None old ≡ None
-still_none true old none = refl
-still_none false old none = none
 
 none_where_free : (free gone : Bool) (old : Option Version) → (free ≡ true → old ≡ None) → IsTrue (free || gone) → cond gone None old ≡ None
 none_where_free free true old none is = refl
@@ -117,7 +118,7 @@ pub lawful_cleared : (old new : Contents) (cleared : List EntryNo) → Clears ol
     → AreLawful old → AreLawful new
 lawful_cleared old new cleared clears room are =
     lawful_from old new (subst IsLawful (sym clears.current) (lawful_but_one old.current are.current room))
-    (ap (λ (r : Record). r.layout) clears.current) clears.lines_are clears.versions are
+    (ap (λ (r : Record). r.layout) clears.current) (λ newcomer. ap (λ (r : Record). r.role) (sym clears.current) ∙ newcomer) clears.lines_are clears.versions are
 
 pub consistent_cleared : (old new : Contents) (cleared : List EntryNo) → Clears old cleared new → IsConsistent old → IsConsistent new
 consistent_cleared old new cleared clears consistent =

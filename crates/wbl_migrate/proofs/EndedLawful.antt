@@ -6,6 +6,7 @@ use Rattle.pmem.proofs.Staging.{same_or_other}
 use Rattle.model.specs.Group.{AreApart, Contents, IsConsistent, is_ended_version}
 use Rattle.model.specs.Image.{Version}
 use Rattle.wbl_engine.specs.Lawful.{AreLawful}
+use Rattle.wbl_engine.proofs.LawfulLemmas.{some_version}
 use Rattle.wbl_engine.proofs.WithoutLemmas.{consistent_without, lawful_without}
 use Rattle.wbl_migrate.specs.Ended.{IsMovable, after_move, with_copy}
 use Rattle.wbl_migrate.proofs.EndedMaps.{apart, copied_at, copied_map, copied_other}
@@ -52,6 +53,7 @@ module _ {contents : Contents} {from to to_line : ℕ} {version : Version} (may 
         keyspace = are.keyspace;
         lawful = are.lawful;
         map = (copied_map may are.keyspace).0 are.map;
+        uncopied = λ newcomer. absurd (some_version version (sym (are.uncopied newcomer from) ∙ may.held));
       }
 
   -- the version that leaves its old entry has ended

@@ -12,7 +12,7 @@ use Rattle.model.specs.ReadImage.{is_clash, record_in}
 use Rattle.wbl_migrate.proofs.Maps.{SameEntry}
 
 module _ (lines' : ℕ) (r q : Record) (base image : Image) (counted : (stamp : ℕ) → counts q stamp ≡ counts r stamp) (cd : q.cd ≡ r.cd)
-    (position : q.position ≡ r.position) where
+    (position : q.position ≡ r.position) (role : q.role ≡ r.role) where
   abbrev Same : ℕ → Type 0
   Same i = SameEntry base image (first_extent_line lines') i
 
@@ -64,6 +64,7 @@ module _ (lines' : ℕ) (r q : Record) (base image : Image) (counted : (stamp : 
             let was_j : IsTrue (is_live r base j) = sym (live_same j (same j below_j)) ∙ live_j in
             ap₂ is_clash (id_same i (same i below_i) (whole i below_i was_i)) (id_same j (same j below_j) (whole j below_j was_j))
             ∙ are.distinct i j (within i below_i) (within j below_j) differ was_i was_j;
+        uncopied = λ newcomer i below. begun_same i (same i below) ∙ are.uncopied (sym role ∙ newcomer) i (within i below);
       }
     where
       within : (i : ℕ) → i < entries_of_lines q.layout lines' → i < entries_of_lines r.layout lines'

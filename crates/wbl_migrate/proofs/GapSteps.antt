@@ -57,7 +57,7 @@ keeps_then a b c first second =
 pub next_keeps : (a : Contents) → a.current.number + 1 < COUNTER_LIMIT → KeepsAllVersions a (cleared_contents a)
 next_keeps a room =
     keeps_recorded a (cleared_contents a) refl refl refl refl refl (λ i. refl)
-    (λ are. lawful_from a (cleared_contents a) (lawful_but_one a.current are.current room) refl refl (λ i. refl) are)
+    (λ are. lawful_from a (cleared_contents a) (lawful_but_one a.current are.current room) refl (λ newcomer. newcomer) refl (λ i. refl) are)
 
 pub clears_keeps : (a b : Contents) (cleared : List EntryNo) → Clears a cleared b → a.current.number + 1 < COUNTER_LIMIT → KeepsAllVersions a b
 clears_keeps a b cleared clears room =
@@ -70,7 +70,7 @@ faulted_keeps a b kept =
     let current = kept.current in
     keeps_recorded a b (ap (λ (r : Record). r.layout) current) (ap (λ (r : Record). r.position) current) (ap (λ (r : Record). r.epoch) current)
     (ap (λ (r : Record). r.role) current) kept.lines_are kept.versions
-    (λ are. lawful_from a b (rw current are.current) (ap (λ (r : Record). r.layout) current) kept.lines_are kept.versions are)
+    (λ are. lawful_from a b (rw current are.current) (ap (λ (r : Record). r.layout) current) (λ newcomer. ap (λ (r : Record). r.role) (sym current) ∙ newcomer) kept.lines_are kept.versions are)
 
 abbrev pub IsClearedOrNot : Contents → Image → Type 0
 IsClearedOrNot a image = Keeps a image ⊎ Keeps (cleared_contents a) image

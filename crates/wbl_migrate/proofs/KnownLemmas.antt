@@ -171,6 +171,10 @@ module _ (lines' : ℕ) (image opened : Image) (role : Role) (contents : Content
       let at = shown_at i version is in
       ap₂ (λ (a b : Bool). a && not b) at.1 (ap (λ (v : Version). v.is_ended) at.2 ∙ live)
 
+  none_held : (o : Option Version) → ((version : Version) → o ≡ Some version → ⊥) → o ≡ None
+  none_held None never = refl
+  none_held (Some version) never = absurd (never version refl)
+
   distinct : AreDistinct contents.versions count
   distinct i j v w lt_i lt_j differ is_v is_w live_v live_w =
       sym (ap₂ (λ (a b : Version). is_clash a.id b.id) (shown_at i v is_v).2 (shown_at j w is_w).2)
@@ -190,6 +194,11 @@ module _ (lines' : ℕ) (image opened : Image) (role : Role) (contents : Content
         keyspace = map_below contents.versions count;
         lawful = distinct_keyspace contents.versions count distinct;
         map = distinct_map contents.versions count distinct;
+        uncopied = λ newcomer i.
+            none_held (contents.versions i)
+            (λ version is.
+            let at = shown_at i version is in
+            both_ways (is_counted contents.current opened i) (shown.undamaged.versions.uncopied newcomer i at.0) at.1);
       }
 
 -- a device whose superblock earns no refusal has the size of an image

@@ -49,7 +49,7 @@ pub new_image : (d : State) (lines : ℕ) (r : Record) (s : Keyspace) (image : I
 new_image d lines r s image all partly version =
     let mark : IsMarked d image = marked d 2 image partly in
     let is : IsRenewed lines r s mark.base = all mark.base mark.is in
-    movable_at Halfway Version2 lines r (renewed r) s mark.base image refl (record { cp = refl; cd = refl; position = refl; gapless = refl })
+    movable_at Halfway Version2 lines r (renewed r) s mark.base image refl (record { cp = refl; cd = refl; position = refl; role = refl; gapless = refl })
     (renewed_lawful r is.movable.undamaged.current.lawful is.number) version
     (record_stays lines (renewed r) mark.base image mark.same is.next) (agrees_but_version lines mark.base image mark.same) is.movable
 

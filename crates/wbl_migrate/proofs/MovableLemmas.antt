@@ -81,15 +81,16 @@ record_stays lines r base image same has =
     HasRecord-same lines r base image (same (root_word r.layout) (λ e. omega (arith, e, root)))
     (λ word low high. same word (λ e. omega (arith, e, low, behind))) has
 
--- the second record has no gap, and under it the same stamps were given out and count, at the same position
+-- the second record has no gap, and under it the same stamps were given out and count, at the same position and in the same role
 pub record CountsAlike (r q : Record) : Type 0 where
   pub cp : q.cp ≡ r.cp
   pub cd : q.cd ≡ r.cd
   pub position : q.position ≡ r.position
+  pub role : q.role ≡ r.role
   pub gapless : q.gaps.items ≡ []
 
 pub itself : (r : Record) → r.gaps.items ≡ [] → CountsAlike r r
-itself r gapless = record { cp = refl; cd = refl; position = refl; gapless = gapless }
+itself r gapless = record { cp = refl; cd = refl; position = refl; role = refl; gapless = gapless }
 
 -- the records of the stages obey the rules that the one of version 1 does
 pub halfway_lawful : (r : Record) → IsLawful (in_layout Version1 r) → IsLawful (in_layout Halfway r)
@@ -154,7 +155,7 @@ movable_at from to lines r q s base image few alike lawful version_is has_record
           room = same.head 3 (omega arith) (λ e. omega (arith, e)) (λ e. omega (arith, e)) ∙ was.superblock.room;
         };
         current = record { version_is = version_is; has_record = has_record; lawful = lawful };
-        versions = versions_same lines (in_layout from r) (in_layout to q) base image counted_same alike.cd alike.position (omega (arith, few, many))
+        versions = versions_same lines (in_layout from r) (in_layout to q) base image counted_same alike.cd alike.position alike.role (omega (arith, few, many))
             (λ i below. at i (omega (arith, few, below))) was.versions;
       };
       map = subst (λ (n : ℕ). IsMapOf (version_at q image) n s) (sym few)

@@ -185,7 +185,7 @@ readable-keeps holder calls p contents image image' are lawful keeps stays =
         consistent = record { free = are.consistent.free; beyond = λ i past. are.consistent.beyond i (subst (λ n. n ≤ i) count past) };
         map = subst (λ n. IsMapOf contents.versions n (keyspace_after (cut_at calls p))) (sym count) are.map;
       };
-      lawful = lawful_from contents after stays.undamaged.current.lawful stays.layout refl (λ i. refl) lawful;
+      lawful = lawful_from contents after stays.undamaged.current.lawful stays.layout (λ newcomer. sym stays.role ∙ newcomer) refl (λ i. refl) lawful;
       keeps = record {
         superblock = stays.undamaged.superblock;
         has_record = stays.undamaged.current.has_record;
