@@ -10,7 +10,7 @@ ghost use Rattle.pmem.specs.Crash.{image_of};
 ghost use Rattle.placing.specs.Read.{AreOf};
 ghost use Rattle.wbl_engine.specs.Contents.{IsDurable};
 ghost use Rattle.wbl_engine.specs.Lawful.{IsUndamaged};
-ghost use Rattle.wbl_engine.specs.Reopening.{RefusesReopening};
+ghost use Rattle.wbl_engine.specs.Reopening.{RefusesReading, RefusesReopening};
 ghost use Rattle.standby.specs.Following.{Follows};
 ghost use Rattle.wbl_engine.specs.Restarting.{IsReopened};
 
@@ -28,8 +28,8 @@ use wbl_engine::{Durable, Role, Versions, WblEngine};
 ///
 /// # Errors
 ///
-/// As at `WblEngine::reopen`, but `NotCopied` for an undamaged image of a newcomer, which follows nobody before it has its copy; and `Memory` also after it: the
-/// image is the reopened one then.
+/// As at `WblEngine::reopen`, but `NotCopied` for an undamaged image of a newcomer, which follows nobody before it has its copy, and never `WrongRole`; and `Memory`
+/// also after it: the image is the reopened one then.
 pub fn open<P: Pmem + Drop, K: Keyspace + Drop>(
     alloc: Global,
     device: P,
@@ -43,6 +43,8 @@ pub fn open<P: Pmem + Drop, K: Keyspace + Drop>(
     ensures refused { IfErr result (λ refusal. (refusal ≡ Fault) ⊎ ((refusal ≡ Memory)
         ⊎ (RefusesReopening LAYOUT (P.state device).lines (image_of (P.state device).words) role.Standby refusal
         ⊎ ((refusal ≡ NotCopied) × ((r : CommitRecord) → IsUndamaged (P.state device).lines r (image_of (P.state device).words) → r.role ≡ role.Newcomer))))) }
+    ensures other { IfErr result (λ refusal. refusal ≡ WrongRole
+        → (r : CommitRecord) → IsUndamaged (P.state device).lines r (image_of (P.state device).words) → ¬ (r.role ≡ role.Newcomer)) }
 {
     match WblEngine::reopen(alloc, device, LAYOUT, Role::Standby) {
         Ok((engine, versions)) => {
@@ -55,19 +57,24 @@ pub fn open<P: Pmem + Drop, K: Keyspace + Drop>(
     }
 }
 
-/// Why the image of this device is no standby's: it is a newcomer's, or any other. (Without the memory to read it, it is any other.)
+/// Why the image of this device is no standby's: it is a newcomer's, or any other; or why it is not read.
 fn refusal_of_role<P: Pmem>(alloc: Global, device: &P) -> Refusal
     ensures newcomer { result ≡ NotCopied
         → (r : CommitRecord) → IsUndamaged (P.state device.now).lines r (image_of (P.state device.now).words) → r.role ≡ role.Newcomer }
-    ensures cause { (result ≡ NotCopied) ⊎ (result ≡ WrongRole) }
+    ensures other { result ≡ WrongRole
+        → (r : CommitRecord) → IsUndamaged (P.state device.now).lines r (image_of (P.state device.now).words) → ¬ (r.role ≡ role.Newcomer) }
+    ensures cause { (result ≡ NotCopied) ⊎ ((result ≡ WrongRole)
+        ⊎ RefusesReading LAYOUT (P.state device.now).lines (image_of (P.state device.now).words) result) }
 {
-    let Ok((current, _)) = wbl_engine::inspect(alloc, device, LAYOUT) else {
-        return Refusal::WrongRole;
-    };
-    if is_newcomer(&current) {
-        Refusal::NotCopied
-    } else {
-        Refusal::WrongRole
+    match wbl_engine::inspect(alloc, device, LAYOUT) {
+        Ok((current, _)) => {
+            if is_newcomer(&current) {
+                Refusal::NotCopied
+            } else {
+                Refusal::WrongRole
+            }
+        }
+        Err(refusal) => refusal,
     }
 }
 
