@@ -17,3 +17,4 @@ pub mod RoomLemmas
 pub mod ClearingLemmas
 pub mod MovingLemmas
 pub mod IdleLemmas
+pub mod JoiningLemmas

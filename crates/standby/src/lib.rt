@@ -3,6 +3,8 @@
 
 mod beside;
 mod idle;
+mod joining;
+mod laws;
 mod moving;
 mod opening;
 mod part;
@@ -13,6 +15,7 @@ mod spare;
 mod standby;
 mod taking;
 
+pub use laws::joined_frames_are_taken_in_turn;
 pub use opening::open;
 pub use spare::SPARE_LINES;
 pub use standby::Standby;

@@ -74,7 +74,7 @@ impl<E: Durable, K: Keyspace> Standby<E, K> {
     }
 
     /// Whether it takes frames of this epoch: its own, or, at position 0, a higher one.
-    fn takes_epoch(&self, epoch: u64) -> bool
+    pub(crate) fn takes_epoch(&self, epoch: u64) -> bool
         ensures { IsTrue result ↔ TakesEpoch (E.contents self.now.engine).current epoch }
     {
         epoch == self.epoch() || (self.position() == 0 && epoch > self.epoch())
@@ -158,14 +158,14 @@ impl<E: Durable, K: Keyspace> Standby<E, K> {
 }
 
 /// Whether the frame is the one that comes next at this position.
-fn is_next(position: u64, frame: &Frame) -> bool
+pub(crate) fn is_next(position: u64, frame: &Frame) -> bool
     ensures { IsTrue result ↔ IsNext position frame.now }
 {
     position < frame.after && frame.before == position
 }
 
 /// Whether the commit of the frame would bring a counter to its limit, or the record is a newcomer's.
-fn would_exhaust(current: &Record, frame: &Frame) -> bool
+pub(crate) fn would_exhaust(current: &Record, frame: &Frame) -> bool
     ensures { IsTrue result ↔ WouldExhaust current.now frame.now }
 {
     current.cp >= COUNTER_LIMIT - STAMP_WINDOW - 2
