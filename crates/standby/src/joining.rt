@@ -1,5 +1,5 @@
 //! Whether a frame can be taken as the image is, which is asked of frames that are joined before they are.
-ghost use Rattle.std.specs.Prelude.{◌≡◌, ◌↔◌, IsTrue, OnErr, Ok, Err};
+ghost use Rattle.std.specs.Prelude.{◌≡◌, ◌↔◌, true, IsTrue, OnErr, Ok, Err};
 ghost use Rattle.placing.specs.Place.{HasRoomFor};
 ghost use Rattle.standby.specs.Taking.{IsDue};
 
