@@ -1,6 +1,7 @@
 mod SentFrames
 mod Serving
 mod Says
+mod JoinedFrames
 mod Hearing
 mod FirstPieces
 mod SentRounds

@@ -18,7 +18,7 @@ use Rattle.stream_codec.specs.Scanning.{sent_of_all}
 use Rattle.stream_codec.specs.Stream.{took, fed}
 use Rattle.node_log.specs.declared.link_error.LinkError.{LinkError}
 use Rattle.node_log.specs.declared.link_error.LinkError.TheVariants.{Closed}
-use Rattle.links.specs.Serving.{Held, Acknowledges, Answers, IsLeft, IsTidied, none, Leaves, keeps, cuts, fails, Says, HasRun, HasSaid, LinkSays, cut_off, Served, ack_text, acks_text, held}
+use Rattle.links.specs.Serving.{Held, Acknowledges, Answers, IsLeft, IsTidied, none, Leaves, keeps, cuts, fails, left_as_one, Says, HasRun, HasSaid, LinkSays, cut_off, Served, ack_text, acks_text, held}
 use Rattle.links.proofs.Serving.{Appends-join, Appends-none, Consumes-join, Run-join, Served-ended, not_refused}
 
 pub IsLeft-refl : (node : Held) → IsLeft node node
@@ -43,6 +43,8 @@ Leaves-more : (node last : Held) (messages later : List Sent) (part : List ℕ) 
 Leaves-more _ _ _ later _ (keeps node last messages left) = keeps node last (messages ++ later) left
 Leaves-more _ _ _ later _ (cuts node last message messages ack part rest answers split) = cuts node last message (messages ++ later) ack part rest answers split
 Leaves-more _ _ _ later _ (fails node last frame messages ends) = fails node last frame (messages ++ later) ends
+Leaves-more _ _ _ later _ (left_as_one node last messages part one next whole on is left) =
+    left_as_one node last (messages ++ later) part one next whole on is (Leaves-more node last (sent_of_frame whole ∷ messages) later part left)
 
 -- nothing was written
 pub says-none : (first last : Held) (messages : List Sent) (before : Option (List ℕ)) → Leaves first messages [] last → Says first messages before last before []

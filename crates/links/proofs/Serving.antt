@@ -15,12 +15,12 @@ use Rattle.node_log.specs.declared.link_error.LinkError.{LinkError}
 use Rattle.node_log.specs.declared.link_error.LinkError.TheVariants.{Stops}
 use Rattle.std.proofs.lemmas.List.{flat_map_more, map-append}
 use Rattle.stream_codec.specs.declared.message.Message.{Message}
-use Rattle.stream_codec.specs.Message.{Sent, sent_of}
+use Rattle.stream_codec.specs.Message.{Sent, sent_of, sent_of_frame}
 use Rattle.stream_codec.specs.Scanning.{sent_of_all}
 use Rattle.std.specs.Io.KnownBytes.{Appends, Consumes}
 use Rattle.std.proofs.lemmas.Grind.{flat_map-append}
 use Rattle.stream_codec.specs.Stream.{begun as unfed, took, fed}
-use Rattle.links.specs.Serving.{Held, Acknowledges, Answers, IsFreed, IsTidied, Run, none, more, idle, HasRun, Served, ack_text, acks_text, ends_by, held}
+use Rattle.links.specs.Serving.{Held, Acknowledges, Answers, IsFreed, IsTidied, Run, none, more, idle, as_one, HasRun, Served, ack_text, acks_text, ends_by, held}
 
 same_ack : {ack told : Ack} → ◌≡◌ {A = Result Ack Refusal} (Ok ack) (Ok told) → ack ≡ told
 same_ack is = cc
@@ -135,6 +135,11 @@ Run-join first middle last messages _ acks _ run (more _ between _ others told m
     (more first between last (messages ++ others) (acks ++ told) message ack (Run-join first middle between messages others acks told run so_far) answers))
 Run-join first middle last messages others acks told run (idle _ between _ _ _ so_far tidied) =
     idle first between last (messages ++ others) (acks ++ told) (Run-join first middle between messages others acks told run so_far) tidied
+Run-join first middle last messages _ acks told run (as_one _ _ earlier later _ one next whole on is so_far) =
+    subst (λ (sent : List Sent). Run first sent (acks ++ told) last) (append_assoc messages earlier (sent_of_frame one ∷ sent_of_frame next ∷ later))
+    (as_one first last (messages ++ earlier) later (acks ++ told) one next whole on is
+    (subst (λ (sent : List Sent). Run first sent (acks ++ told) last) (sym (append_assoc messages earlier (sent_of_frame whole ∷ later)))
+    (Run-join first middle last messages (earlier ++ sent_of_frame whole ∷ later) acks told run so_far)))
 
 pub Consumes-join : (bytes between left : Option (List ℕ)) (xs ys : List ℕ) → Consumes bytes between xs → Consumes between left ys → Consumes bytes left (xs ++ ys)
 Consumes-join None between left xs ys one two = tt

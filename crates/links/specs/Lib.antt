@@ -4,6 +4,7 @@ pub mod Reading
 pub mod Hearing
 pub mod Opening
 pub mod Serving
+pub mod Joining
 pub mod Greeting
 pub mod Ends
 pub mod Carrying

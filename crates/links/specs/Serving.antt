@@ -9,6 +9,7 @@ use Rattle.model.specs.declared.record.Record.{Record}
 use Rattle.model.specs.Group.{Contents}
 use Rattle.mv_keyspace.specs.Table.{Table, records}
 use Rattle.frames.specs.declared.frame.Frame.{Frame}
+use Rattle.frames.specs.Joining.{IsJoined, JoinsOn}
 use Rattle.stream_codec.specs.declared.message.GroupHead.{GroupHead}
 use Rattle.frames.specs.declared.ack.Ack.{Ack}
 use Rattle.standby.specs.Following.{TakesEpoch, IsHeld, IsNext, IsRearranged, IsTakenNext, HasTaken, EndsAs}
@@ -48,12 +49,15 @@ pub record Answers (before : Held) (message : Sent) (ack : Ack) (after : Held) :
   pub is_frame : message ≡ sent_of_frame frame
   pub acknowledges : Acknowledges before frame ack after
 
--- The node answered these messages, in order, with these acknowledgements, and nothing else moved it. Between them it may have tidied its image.
+-- The node answered these messages, in order, with these acknowledgements, and nothing else moved it. Between them it may have tidied its image. Two frames of
+-- which one follows the other it may have answered as one, by the acknowledgement of the whole; and so any number that follow one another.
 pub data Run : Held → List Sent → List Ack → Held → Type 0 where
   none : (node : Held) → Run node [] [] node
   more : (first middle last : Held) (messages : List Sent) (acks : List Ack) (message : Sent) (ack : Ack)
       → Run first messages acks middle → Answers middle message ack last → Run first (messages ++ message ∷ []) (acks ++ ack ∷ []) last
   idle : (first middle last : Held) (messages : List Sent) (acks : List Ack) → Run first messages acks middle → IsTidied middle last → Run first messages acks last
+  as_one : (first last : Held) (earlier later : List Sent) (acks : List Ack) (one next whole : Frame) → JoinsOn one next → IsJoined one next whole
+      → Run first (earlier ++ sent_of_frame whole ∷ later) acks last → Run first (earlier ++ sent_of_frame one ∷ sent_of_frame next ∷ later) acks last
 
 -- acknowledgements as bytes
 unfoldable pub ack_text : Ack → List ℕ
@@ -76,6 +80,9 @@ pub data Leaves : Held → List Sent → List ℕ → Held → Type 0 where
       → Leaves node (message ∷ messages) part last
   -- its device failed in the next frame, which it holds then, or does not
   fails : (node last : Held) (frame : Frame) (messages : List Sent) → EndsAs frame node.contents node.table last.contents → Leaves node (sent_of_frame frame ∷ messages) [] last
+  -- it was told the next two as one frame
+  left_as_one : (node last : Held) (messages : List Sent) (part : List ℕ) (one next whole : Frame) → JoinsOn one next → IsJoined one next whole
+      → Leaves node (sent_of_frame whole ∷ messages) part last → Leaves node (sent_of_frame one ∷ sent_of_frame next ∷ messages) part last
 
 -- What was written where these messages came, whatever became of the link: the acknowledgements of those that the node answered, the first of them, in order;
 -- at most this part of one more; and nothing else.

@@ -17,6 +17,7 @@ ghost use Rattle.links.specs.declared.left.Left.TheVariants.{Adopts, Stopped};
 ghost use Rattle.node_log.specs.declared.link_error.LinkError.TheVariants.{Closed, Refused, Stops};
 
 use crate::acknowledging::say;
+use crate::joining::join_frames;
 use crate::left::Left;
 use crate::link_acceptor::LinkAcceptor;
 use crate::link_error::{ends_by, refusal_of_ack, refusal_of_head};
@@ -40,8 +41,8 @@ use std::time::Clock;
 use stream_codec::{Decoder, GroupHead, Message};
 use wbl_engine::Durable;
 
-/// How many bytes are read at once.
-const BLOCK_BYTES: usize = 65_536;
+/// How many bytes are read at once, which is room that a standby keeps once: the frames that one read brings are joined.
+const BLOCK_BYTES: usize = 262_144;
 
 /// Takes one link at a time, until one stops the node, or the node takes over the number of a pair, and says which. Both sides of each link say first which
 /// release's links they speak and to which pair they belong, and a link whose sides may not link ends there, with the node as it was. With a host, connections from any other are closed at once. A link on which
@@ -127,7 +128,7 @@ fn serve_next<C: Clock, E: Durable, K: Keyspace, W: Write>(
 
 /// Serves one link: says where the node is, and then answers each frame that comes, in order, until the primary closes the connection. Then what was written is the
 /// acknowledgement of where the node was, and those with which it answered the frames that were read, in order. Each is sent as soon as its frame is
-/// durable. What a frame ended is freed with the next one, or once nothing has come for a second. How much the node holds is shown from the beginning, and
+/// durable. Frames that one read brought are answered as one where they follow one another and the node takes them at once. What a frame ended is freed with the next one, or once nothing has come for a second. How much the node holds is shown from the beginning, and
 /// after each piece of the bytes that are read.
 ///
 /// # Errors
@@ -234,8 +235,8 @@ fn tidy<E: Durable, K: Keyspace>(alloc: Global, node: &mut Standby<E, K>) -> Res
     only_fault(node.tidy(alloc))
 }
 
-/// Answers the frames that are whole with this piece, in order. Nothing is left in `out`. A frame of which only the beginning is there is one that the
-/// node may take, as far as its numbers tell.
+/// Answers the frames that are whole with this piece, in order, and those that `join_frames` joins as one. Nothing is left in `out`. A frame of which only the
+/// beginning is there is one that the node may take, as far as its numbers tell.
 fn answer_piece<E: Durable, K: Keyspace, O: Write>(
     alloc: Global,
     node: &mut Standby<E, K>,
@@ -260,7 +261,8 @@ fn answer_piece<E: Durable, K: Keyspace, O: Write>(
         Ok(messages) => messages,
         Err(refusal) => return Err(LinkError::Refused(refusal)),
     };
-    answer_all(alloc, node, messages, out, to)?;
+    let told = join_frames(alloc, node, messages)?;
+    answer_all(alloc, node, told, out, to)?;
     if decoder.is_broken() {
         return Err(LinkError::Refused(Refusal::FrameFault));
     }

@@ -6,6 +6,7 @@ mod dialing;
 mod following;
 mod gap;
 mod greetings;
+mod joining;
 mod left;
 mod link_acceptor;
 mod link_error;
