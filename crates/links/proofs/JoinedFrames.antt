@@ -1,8 +1,7 @@
 -- Frames that were told as one, in a run and where a link ends.
-use Rattle.std.proofs.Common.{◌≡◌, ℕ, suc, ◌+◌, ◌<◌, ◌⊎◌, inl, inr, List, [], ◌∷◌, ◌++◌, length, drop, get_or, ◌≤◌, refl, sym, ap, subst, ◌∙◌, append-nil, append_assoc, arith, Option, Some, rules}
+use Rattle.std.proofs.Common.{◌≡◌, ℕ, suc, ◌+◌, ◌<◌, ◌⊎◌, inl, inr, List, [], ◌∷◌, ◌++◌, length, drop, get_or, slice_get, ◌≤◌, refl, sym, ap, subst, ◌∙◌, append-nil, append_assoc, arith, Option, Some, rules}
 use Rattle.std.proofs.lemmas.List.{map-append}
 use lib.Seq.{get_or-append_seam, drop-append_seam}
-use Rattle.core.specs.List.{slice_get}
 use Rattle.std.specs.Io.KnownBytes.{Appends}
 use Rattle.extent_heap.specs.Room.{Room}
 use Rattle.placing.specs.Place.{HasRoomFor}
