@@ -9,6 +9,7 @@ use Rattle.kv_types.specs.declared.refusal.Refusal.TheVariants as refusal
 use Rattle.model.specs.declared.group.Group.{Group}
 use Rattle.model.specs.declared.work.Work.{Work}
 use Rattle.model.specs.Group.{Contents}
+use Rattle.wbl_engine.specs.declared.freeing.Freed.{Freed as Places}
 use Rattle.pipes.specs.Waiting.{Waiting}
 use Rattle.pipes.specs.Ring.{offered_at}
 use Rattle.pipes.specs.declared.limits.TheConstants.{PIPE_ITEMS}
@@ -25,7 +26,7 @@ use Rattle.group_commit.specs.declared.stage.Done.TheVariants as done
 use Rattle.primary.specs.declared.back.Back.{Back}
 use Rattle.primary.specs.Ahead.{is_of_commit}
 use Rattle.primary.specs.Recalling.{ImageRecalls, Past}
-use Rattle.primary.specs.Standing.{notices_of}
+use Rattle.primary.specs.Standing.{StandsOver, notices_of}
 use Rattle.primary.proofs.BehindLemmas.{TakesWide, left-by, nothing-told, takes-wide}
 use Rattle.primary.proofs.KeptImages.{turn-leaves}
 use Rattle.primary.proofs.KeptTurns.{kept-for-all, refused-keeps}
@@ -50,6 +51,10 @@ module _ {E O : Type 0} (device : E → State) (contents : E → Contents) (is_f
   aside-stays due.Free is took = absurd (true≢false (sym is))
   aside-stays due.Clear is took = absurd (true≢false (sym is))
   aside-stays due.Nothing is took = absurd (true≢false (sym is))
+
+-- what is said of a step that was answered so
+if-ok : (X : Done → Type 0) (came : Result Done Refusal) (d : Done) → came ≡ Ok d → IfOk came X → X d
+if-ok X came d is it = subst (λ (answer : Result Done Refusal). IfOk answer X) is it
 
 -- all of it, as one queue
 abbrev pub Fits : {E : Type 0} → List Work → Back E → Type 0
@@ -78,21 +83,9 @@ module _ {E : Type 0} (device : E → State) (contents : E → Contents) (is_fau
     pub untold_are : AllByRecursion (λ came. noted came ≡ []) all
 
 module _ {E P : Type 0} (device : E → State) (contents : E → Contents) (is_faulted : E → Bool) (remote : ℕ) (behind : List Work) where
-  abbrev Link : Type 0
-  Link = RingOutlet Group P
-
-  abbrev rooms_of : Link → ℕ
-  rooms_of = λ end. known_free end.producer
-
-  abbrev Over : Back E → Sequencing → Type 0
-  Over back s = StandsBehind device contents back behind s
-
-  abbrev Kept : Past → Back E → Sequencing → Type 0
-  Kept past back s = KeepsBehind device contents is_faulted past back behind s
-
   -- ---- one step
 
-  module _ (old : Back E) (link : Link) (came : Result Done Refusal) (new : Back E) (link' : Link) (step : IsStep device contents is_faulted remote old link came new link')
+  module _ (old : Back E) (link : RingOutlet Group P) (came : Result Done Refusal) (new : Back E) (link' : RingOutlet Group P) (step : IsStep device contents is_faulted remote old link came new link')
       (suits : is_of_commit (due_now contents old.committer old.work (nat_lt 0 (known_free link'.producer)) remote) ≡ true) (fits : Fits behind old) where
     abbrev has_room : Bool
     has_room = nat_lt 0 (known_free link'.producer)
@@ -100,66 +93,69 @@ module _ {E P : Type 0} (device : E → State) (contents : E → Contents) (is_f
     -- no more waits after it
     pub fits-then : Fits behind new
     fits-then =
-        let fewer = left-by device contents is_faulted offered_at rooms_of old.committer new.committer old.work new.work link link' has_room remote came
+        let fewer = left-by device contents is_faulted offered_at (λ (end : RingOutlet Group P). known_free end.producer) old.committer new.committer old.work new.work link link' has_room remote came
         (due_now contents old.committer old.work has_room remote) suits step in
         omega (arith, fewer, fits, length-append old.work.items behind, length-append new.work.items behind)
 
     -- the same step, of a queue that has all of it
-    pub wide : TakesWide device contents is_faulted offered_at rooms_of old.committer new.committer old.work new.work link link' has_room remote came behind (wide_of behind old fits) (wide_of behind new fits-then) refl refl
-    wide = takes-wide device contents is_faulted offered_at rooms_of old.committer new.committer old.work new.work link link' has_room remote came behind (wide_of behind old fits) (wide_of behind new fits-then) refl refl
+    pub taken-wide : TakesWide device contents is_faulted offered_at (λ (end : RingOutlet Group P). known_free end.producer) old.committer new.committer old.work new.work link link' has_room remote came behind (wide_of behind old fits) (wide_of behind new fits-then) refl refl
+    taken-wide = takes-wide device contents is_faulted offered_at (λ (end : RingOutlet Group P). known_free end.producer) old.committer new.committer old.work new.work link link' has_room remote came behind (wide_of behind old fits) (wide_of behind new fits-then) refl refl
         suits step
 
-    one-stands : (s : Sequencing) → Over old s → IfOk came (λ done. StandsBehind device contents new behind s)
+    one-stands : (s : Sequencing) → StandsBehind device contents old behind s → IfOk came (λ done. StandsBehind device contents new behind s)
     one-stands s over = by came refl
       where
         by : (answer : Result Done Refusal) → came ≡ answer → IfOk answer (λ done. StandsBehind device contents new behind s)
         by (Ok d) is =
             let none : notices_of d ≡ [] =
-            nothing-told device contents is_faulted offered_at rooms_of old.committer new.committer old.work new.work link link' has_room remote d (due_now contents old.committer old.work has_room remote) suits
+            nothing-told device contents is_faulted offered_at (λ (end : RingOutlet Group P). known_free end.producer) old.committer new.committer old.work new.work link link' has_room remote d (due_now contents old.committer old.work has_room remote) suits
             (subst (λ (answer : Result Done Refusal). IsStep device contents is_faulted remote old link answer new link') is step) in
-            let told = told-for-all device contents is_faulted offered_at wide.rooms old.committer new.committer (wide_of behind old fits) (wide_of behind new fits-then) link link' has_room remote came wide.takes in
-            let stands = (subst (λ (answer : Result Done Refusal). IfOk answer _) is told) s [] over in
+            let told = told-for-all device contents is_faulted offered_at taken-wide.rooms old.committer new.committer (wide_of behind old fits) (wide_of behind new fits-then) link link' has_room remote came taken-wide.takes in
+            let stands : StandsOver (device new.committer.engine) (contents new.committer.engine) (new.work.items ++ behind) new.committer.aside.items s (notices_of d) =
+            if-ok (λ (d : Done). (s : Sequencing) (notices : List Places) → StandsOver (device old.committer.engine) (contents old.committer.engine) (old.work.items ++ behind) old.committer.aside.items s notices
+            → StandsOver (device new.committer.engine) (contents new.committer.engine) (new.work.items ++ behind) new.committer.aside.items s (notices ++ notices_of d)) came d is told s [] over in
             rw none at stands
         by (Err cause) is = tt
 
-    one-keeps : (s : Sequencing) (past : Past) → Over old s → Kept past old s → IfOk came (λ done. KeepsBehind device contents is_faulted past new behind s)
+    one-keeps : (s : Sequencing) (past : Past) → StandsBehind device contents old behind s → KeepsBehind device contents is_faulted past old behind s → IfOk came (λ done. KeepsBehind device contents is_faulted past new behind s)
     one-keeps s past over kept = by came refl
       where
         by : (answer : Result Done Refusal) → came ≡ answer → IfOk answer (λ done. KeepsBehind device contents is_faulted past new behind s)
         by (Ok d) is =
-            let keeps = kept-for-all device contents is_faulted offered_at wide.rooms old.committer new.committer (wide_of behind old fits) (wide_of behind new fits-then) link link' has_room remote came wide.takes in
-            (subst (λ (answer : Result Done Refusal). IfOk answer _) is keeps) s [] past over kept
+            let keeps = kept-for-all device contents is_faulted offered_at taken-wide.rooms old.committer new.committer (wide_of behind old fits) (wide_of behind new fits-then) link link' has_room remote came taken-wide.takes in
+            if-ok (λ (d : Done). (s : Sequencing) (notices : List Places) (past : Past) → StandsOver (device old.committer.engine) (contents old.committer.engine) (old.work.items ++ behind) old.committer.aside.items s notices
+            → KeepsBehind device contents is_faulted past old behind s → KeepsBehind device contents is_faulted past new behind s) came d is keeps s [] past over kept
         by (Err cause) is = tt
 
-    one-again : came ≡ Err refusal.Memory → (s : Sequencing) → Over old s → Over new s
+    one-again : came ≡ Err refusal.Memory → (s : Sequencing) → StandsBehind device contents old behind s → StandsBehind device contents new behind s
     one-again is s over =
-        turn-again device contents is_faulted offered_at wide.rooms old.committer new.committer (wide_of behind old fits) (wide_of behind new fits-then) link link' has_room remote came wide.takes
+        turn-again device contents is_faulted offered_at taken-wide.rooms old.committer new.committer (wide_of behind old fits) (wide_of behind new fits-then) link link' has_room remote came taken-wide.takes
         (subst (λ (answer : Result Done Refusal). IsErrOf answer refusal.Memory) (sym is) refl) s [] over
 
-    one-still : came ≡ Err refusal.Memory → (s : Sequencing) (past : Past) → Over old s → Kept past old s → Kept past new s
+    one-still : came ≡ Err refusal.Memory → (s : Sequencing) (past : Past) → StandsBehind device contents old behind s → KeepsBehind device contents is_faulted past old behind s → KeepsBehind device contents is_faulted past new behind s
     one-still is s past over kept =
-        refused-keeps device contents is_faulted past s [] offered_at wide.rooms old.committer new.committer (wide_of behind old fits) (wide_of behind new fits-then) link link' has_room remote over kept came wide.takes
+        refused-keeps device contents is_faulted past s [] offered_at taken-wide.rooms old.committer new.committer (wide_of behind old fits) (wide_of behind new fits-then) link link' has_room remote over kept came taken-wide.takes
         (subst (λ (answer : Result Done Refusal). IsErrOf answer refusal.Memory) (sym is) refl)
 
     one-sound : is_faulted old.committer.engine ≡ false → OnOk came (is_faulted new.committer.engine ≡ false)
     one-sound =
-        by came (turn-sound device contents is_faulted offered_at rooms_of old.committer new.committer old.work new.work link link' has_room remote came step)
+        by came (turn-sound device contents is_faulted offered_at (λ (end : RingOutlet Group P). known_free end.producer) old.committer new.committer old.work new.work link link' has_room remote came step)
       where
         by : (answer : Result Done Refusal) → OnOk answer (is_faulted old.committer.engine ≡ false → is_faulted new.committer.engine ≡ false) → is_faulted old.committer.engine ≡ false
             → OnOk answer (is_faulted new.committer.engine ≡ false)
         by (Ok d) is sound = is sound
         by (Err cause) is sound = tt
 
-    one-leaves : is_faulted old.committer.engine ≡ false → (s : Sequencing) (past : Past) → Over old s → Kept past old s
+    one-leaves : is_faulted old.committer.engine ≡ false → (s : Sequencing) (past : Past) → StandsBehind device contents old behind s → KeepsBehind device contents is_faulted past old behind s
         → LeavesOnly (device old.committer.engine) (device new.committer.engine) (ImageRecalls past)
     one-leaves sound s past over kept =
-        turn-leaves device contents is_faulted past s [] offered_at wide.rooms old.committer new.committer (wide_of behind old fits) (wide_of behind new fits-then) link link' has_room remote came sound over kept wide.takes
+        turn-leaves device contents is_faulted past s [] offered_at taken-wide.rooms old.committer new.committer (wide_of behind old fits) (wide_of behind new fits-then) link link' has_room remote came sound over kept taken-wide.takes
 
     -- what is passed on of it: a refusal of memory is as nothing
-    pub passed-stands : OnOk (passed_on came) ((s : Sequencing) → Over old s → Over new s)
+    pub passed-stands : OnOk (passed_on came) ((s : Sequencing) → StandsBehind device contents old behind s → StandsBehind device contents new behind s)
     passed-stands = by came refl
       where
-        by : (answer : Result Done Refusal) → came ≡ answer → OnOk (passed_on answer) ((s : Sequencing) → Over old s → Over new s)
+        by : (answer : Result Done Refusal) → came ≡ answer → OnOk (passed_on answer) ((s : Sequencing) → StandsBehind device contents old behind s → StandsBehind device contents new behind s)
         by (Ok d) is = λ s over. subst (λ (answer : Result Done Refusal). IfOk answer (λ done. StandsBehind device contents new behind s)) is (one-stands s over)
         by (Err refusal.Memory) is = one-again is
         by (Err other) is = cc
@@ -171,7 +167,7 @@ module _ {E P : Type 0} (device : E → State) (contents : E → Contents) (is_f
         by (Ok d) is = λ sound. subst (λ (answer : Result Done Refusal). OnOk answer (is_faulted new.committer.engine ≡ false)) is (one-sound sound)
         by (Err refusal.Memory) is = λ sound.
             ap is_faulted
-            (turn-unmoved device contents is_faulted offered_at rooms_of old.committer new.committer old.work new.work link link' has_room remote came step
+            (turn-unmoved device contents is_faulted offered_at (λ (end : RingOutlet Group P). known_free end.producer) old.committer new.committer old.work new.work link link' has_room remote came step
             (subst (λ (answer : Result Done Refusal). IsErrOf answer refusal.Memory) (sym is) refl))
             ∙ sound
         by (Err other) is = cc
@@ -181,21 +177,21 @@ module _ {E P : Type 0} (device : E → State) (contents : E → Contents) (is_f
       where
         by : (answer : Result Done Refusal) → came ≡ answer → noted answer ≡ []
         by (Ok d) is =
-            nothing-told device contents is_faulted offered_at rooms_of old.committer new.committer old.work new.work link link' has_room remote d (due_now contents old.committer old.work has_room remote) suits
+            nothing-told device contents is_faulted offered_at (λ (end : RingOutlet Group P). known_free end.producer) old.committer new.committer old.work new.work link link' has_room remote d (due_now contents old.committer old.work has_room remote) suits
             (subst (λ (answer : Result Done Refusal). IsStep device contents is_faulted remote old link answer new link') is step)
         by (Err cause) is = refl
 
-    pub passed-keeps : OnOk (passed_on came) ((s : Sequencing) (past : Past) → Over old s → Kept past old s → Kept past new s)
+    pub passed-keeps : OnOk (passed_on came) ((s : Sequencing) (past : Past) → StandsBehind device contents old behind s → KeepsBehind device contents is_faulted past old behind s → KeepsBehind device contents is_faulted past new behind s)
     passed-keeps = by came refl
       where
-        by : (answer : Result Done Refusal) → came ≡ answer → OnOk (passed_on answer) ((s : Sequencing) (past : Past) → Over old s → Kept past old s → Kept past new s)
+        by : (answer : Result Done Refusal) → came ≡ answer → OnOk (passed_on answer) ((s : Sequencing) (past : Past) → StandsBehind device contents old behind s → KeepsBehind device contents is_faulted past old behind s → KeepsBehind device contents is_faulted past new behind s)
         by (Ok d) is = λ s past over kept. subst (λ (answer : Result Done Refusal). IfOk answer (λ done. KeepsBehind device contents is_faulted past new behind s)) is (one-keeps s past over kept)
         by (Err refusal.Memory) is = one-still is
         by (Err other) is = cc
 
   -- ---- all of them
 
-  one-does : (old : Back E) (link : Link) (came : Result Done Refusal) (new : Back E) (link' : Link) (step : IsStep device contents is_faulted remote old link came new link')
+  one-does : (old : Back E) (link : RingOutlet Group P) (came : Result Done Refusal) (new : Back E) (link' : RingOutlet Group P) (step : IsStep device contents is_faulted remote old link came new link')
       → is_of_commit (due_now contents old.committer old.work (nat_lt 0 (known_free link'.producer)) remote) ≡ true → Fits behind old → Pass came → DoesBehind device contents is_faulted behind old new
   one-does old link came new link' step suits fits pass = record {
     stands = ok-then (passed_on came) pass (passed-stands old link came new link' step suits fits);
@@ -209,7 +205,7 @@ module _ {E P : Type 0} (device : E → State) (contents : E → Contents) (is_f
       ok-then (Ok d) is x = x
       ok-then (Err cause) is x = absurd (true≢false (sym is))
 
-  pub all-behind : (all : List (Result Done Refusal)) (old : Back E) (link : Link) (new : Back E) (link' : Link) → AllByRecursion Pass all
+  pub all-behind : (all : List (Result Done Refusal)) (old : Back E) (link : RingOutlet Group P) (new : Back E) (link' : RingOutlet Group P) → AllByRecursion Pass all
       → AreSteps device contents is_faulted true remote old link all new link' → Fits behind old → AllBehind device contents is_faulted behind all old new
   all-behind [] old link new link' pass steps fits =
       rw steps.0 (record {
@@ -238,7 +234,7 @@ module _ {E P : Type 0} (device : E → State) (contents : E → Contents) (is_f
       }
 
   -- whatever became of them, no more waits than before
-  pub all-fit : (all : List (Result Done Refusal)) (old : Back E) (link : Link) (new : Back E) (link' : Link) → AreSteps device contents is_faulted true remote old link all new link' → Fits behind old → Fits behind new
+  pub all-fit : (all : List (Result Done Refusal)) (old : Back E) (link : RingOutlet Group P) (new : Back E) (link' : RingOutlet Group P) → AreSteps device contents is_faulted true remote old link all new link' → Fits behind old → Fits behind new
   all-fit [] old link new link' steps fits = subst (Fits behind) (sym steps.0) fits
   all-fit (came ∷ all) old link new link' (between, at, step, suits, rest) fits =
       all-fit all between at new link' rest (fits-then old link came between at step (suits refl) fits)

@@ -1,12 +1,14 @@
 -- A group and then a list, each closed where it is due.
-use Rattle.std.proofs.Common.{◌≡◌, ℕ, Bool, true, false, not, ◌&&◌, ◌||◌, length, Result, Ok, Err, OnErr, inl, inr, sym, ap, ap₂, subst, ◌∙◌}
+use Rattle.std.proofs.Common.{◌≡◌, ◌<◌, ℕ, Bool, true, false, true≢false, not, ◌&&◌, ◌||◌, List, length, Result, Ok, Err, OnErr, inl, inr, sym, ap, ap₂, subst, ◌∙◌}
 use Rattle.kv_types.specs.declared.refusal.Refusal.{Refusal}
 use Rattle.model.specs.declared.work.Work.{Work}
 use Rattle.pipes.specs.Waiting.{Waiting}
 use Rattle.extent_heap.specs.Room.{has_room}
 use Rattle.redis_core.specs.Sequencing.{Sequencing}
-use Rattle.serving.specs.Closing.{ClosesBoth, ClosesGroup, ClosesList, LacksBoth, LacksMemory, is_tight}
-use Rattle.serving.specs.Gathering.{is_group_due, is_list_due}
+use Rattle.primary.specs.Ahead.{GoesAhead, MayCloseGroup}
+use Rattle.serving.specs.Closing.{AheadIsDue, ClosesBoth, ClosesGroup, ClosesList, LacksBoth, LacksMemory, is_tight}
+use Rattle.serving.specs.Gathering.{is_ahead_due, is_group_due, is_list_due}
+use Rattle.serving.specs.declared.ahead.Ahead.{Ahead}
 use Rattle.serving.specs.declared.closing.TheConstants.{LINES_OF_AN_ENTRY}
 use Rattle.serving.specs.declared.gathering.Gathering.{Gathering}
 use Rattle.serving.specs.declared.gathering.TheConstants.{LISTED_AT_ONCE}
@@ -60,3 +62,21 @@ lacks-second (Err refusal) gathering noted remote is_short is_closed tight old b
   closes,
   subst (λ (t : Bool). LacksMemory (is_list_due noted between.position remote t (length between.ended)) between middle new after) same lacks,
 )
+
+-- ---- ahead
+
+module _ (gathering : Gathering) (remote position : ℕ) (old : Sequencing) (before : Ahead) (found : Bool) (at : position ≡ old.position) (is : found ≡ is_ahead_due gathering position remote) where
+  found-due : is_ahead_due gathering old.position remote ≡ found
+  found-due = ap (λ (n : ℕ). is_ahead_due gathering n remote) (sym at) ∙ sym is
+
+  pub not-due-ahead : found ≡ false → ¬ AheadIsDue gathering remote old before
+  not-due-ahead none due = true≢false (sym due.due ∙ found-due ∙ none)
+
+  pub due-ahead : found ≡ true → 0 < before.room → MayCloseGroup old before.groups → AheadIsDue gathering remote old before
+  due-ahead some room may = record { due = found-due ∙ some; room = room; may = may }
+
+pub goes-same : (s : Sequencing) (items : List Work) → GoesAhead s items s items
+goes-same s items = record {
+  stands = λ device contents all aside notices over. over;
+  keeps = λ low past device contents all aside notices over kept. kept;
+}

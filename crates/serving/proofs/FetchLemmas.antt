@@ -1,5 +1,6 @@
--- A job that comes back, with what was closed ahead put last in its queue.
-use Rattle.std.proofs.Common.{◌≡◌, ◌≤◌, ◌+◌, ℕ, Bool, true, false, List, [], ◌++◌, length, Option, Some, Result, Ok, Err, refl, sym, ap, subst, ◌∙◌, arith, length-append, append-nil}
+-- A job that is lent, and that comes back, with what was closed ahead put last in its queue.
+use Rattle.std.proofs.Common.{◌≡◌, ◌≤◌, ◌+◌, ◌-◌, ℕ, Bool, true, false, List, [], ◌++◌, length, Option, Some, None, Result, Ok, Err, if◌then◌else◌, refl, sym, ap, subst, ◌∙◌, arith, length-append, append-nil}
+use Rattle.lending.specs.declared.view.EndView.{EndView}
 use Rattle.pmem.specs.Device.{State}
 use Rattle.pmem.specs.Runs.{LeavesOnly}
 use Rattle.kv_types.specs.declared.refusal.Refusal.{Refusal}
@@ -17,13 +18,31 @@ use Rattle.primary.proofs.BehindLemmas.{same-waiting}
 use Rattle.serving.specs.declared.ahead.Ahead.{Ahead}
 use Rattle.serving.specs.declared.commit_job.CommitJob.{CommitJob}
 use Rattle.serving.specs.declared.committing.Stepped.{Stepped}
-use Rattle.serving.specs.CommitJob.{AreSteps, DoesSteps, FitsBehind, IsExtended, StandsAfter, StandsBehind}
+use Rattle.serving.specs.CommitJob.{AreSteps, DoesSteps, FitsBehind, IsExtended, IsHereOrLent, StandsAfter, StandsBehind}
 use Rattle.serving.specs.Keeping.{Held, JobKeepsThrough}
 use Rattle.serving.specs.Stepping.{EndAs}
+use Rattle.serving.specs.Tending.{commits_alone}
 use Rattle.serving.proofs.BehindSteps.{AllBehind, all-behind, all-fit}
-use Rattle.serving.proofs.HereOrLent.{behind-alone}
+use Rattle.serving.proofs.HereOrLent.{alone-behind, behind-alone}
 use Rattle.serving.proofs.KeepingLemmas.{here, here-keeps, through-steps}
-use Rattle.serving.proofs.StepActs.{all-pass, extended-none, last-untold}
+use Rattle.serving.proofs.StepActs.{all-pass, extended-none, last-untold, lent-fits}
+
+module _ {E : Type 0} (device : E → State) (contents : E → Contents) (is_faulted : E → Bool) where
+  lent-now : (job : CommitJob E) (ahead : Ahead) (s : Sequencing) → BackStands device contents job.back s [] → ahead.groups.items ≡ []
+      → IsHereOrLent device contents None (Some (record job { is_for_commits = commits_alone device contents is_faulted job }))
+      (record ahead { room = if commits_alone device contents is_faulted job then PIPE_ITEMS - length job.back.work.items else 0 }) s
+  lent-now job ahead s over none = (
+    record job { is_for_commits = commits_alone device contents is_faulted job },
+    refl,
+    subst (λ (xs : List Work). StandsBehind device contents job.back xs s) (sym none) (alone-behind device contents job.back s over),
+    lent-fits device contents is_faulted [] job ahead none,
+  )
+
+  -- it is lent, for commits alone where the step that is due is one, and with as much room ahead as its queue has left then
+  pub lent-out : (job : CommitJob E) (home' : Option (CommitJob E)) (lender lender' : EndView (CommitJob E)) (ahead ahead' : Ahead) (s : Sequencing) (only : Bool) → home' ≡ None
+      → lender' ≡ record lender { value = Some (record job { is_for_commits = only }) } → ahead' ≡ record ahead { room = if only then PIPE_ITEMS - length job.back.work.items else 0 }
+      → only ≡ commits_alone device contents is_faulted job → BackStands device contents job.back s [] → ahead.groups.items ≡ [] → IsHereOrLent device contents home' lender'.value ahead' s
+  lent-out job home' lender lender' ahead ahead' s only home_is lender_is ahead_is only_is over none = rw (home_is, lender_is, ahead_is, only_is) (lent-now job ahead s over none)
 
 module _ {E : Type 0} (device : E → State) (contents : E → Contents) (is_faulted : E → Bool) (lent job : CommitJob E) (ahead : Ahead) (fits : FitsBehind lent ahead) (does : DoesSteps device contents is_faulted lent job) where
   abbrev behind : List Work

@@ -14,7 +14,7 @@ use Rattle.serving.specs.declared.ahead.Ahead.{Ahead}
 use Rattle.serving.specs.declared.commit_job.CommitJob.{CommitJob}
 use Rattle.serving.specs.Closing.{ClosesAhead}
 use Rattle.serving.specs.declared.gathering.Gathering.{Gathering}
-use Rattle.serving.specs.CommitJob.{FitsBehind, IsHereOrLent, StandsBehind}
+use Rattle.serving.specs.CommitJob.{FitsBehind, IsHereOrLent, IsShown, StandsBehind}
 
 module _ {E : Type 0} (device : E → State) (contents : E → Contents) where
   still_led : (back : Back E) (behind : List Work) (old new : Sequencing) → KeepsLead old new → StandsBehind device contents back behind old → StandsBehind device contents back behind new
@@ -48,6 +48,23 @@ module _ {E : Type 0} (device : E → State) (contents : E → Contents) where
       subst (λ (job : CommitJob E). StandsBehind device contents job.back ahead.groups.items s × FitsBehind job ahead)
       (ap (λ (there : Option (CommitJob E)). job-in there job) (sym out.1 ∙ lent_is)) (out.2, out.3)
 
+  -- of one that is here all is shown, and nothing is ahead
+  module _ (home lent : Option (CommitJob E)) (ahead : Ahead) (s : Sequencing) (job : CommitJob E) (is : home ≡ Some job) (stood : IsHereOrLent device contents home lent ahead s) where
+    here-is : IsHereOrLent device contents (Some job) lent ahead s
+    here-is = subst (λ (at : Option (CommitJob E)). IsHereOrLent device contents at lent ahead s) is stood
+
+    pub here-shown : IsShown device contents job.back job.marks
+    here-shown = here-is.2
+
+    pub here-none : ahead.groups.items ≡ []
+    here-none = here-is.3
+
+    -- and it is here again
+    pub here-then : (home' : Option (CommitJob E)) (job' : CommitJob E) (s' : Sequencing) → home' ≡ Some job' → BackStands device contents job'.back s' [] → IsShown device contents job'.back job'.marks
+        → IsHereOrLent device contents home' lent ahead s'
+    here-then home' job' s' is' over shown =
+        subst (λ (at : Option (CommitJob E)). IsHereOrLent device contents at lent ahead s') (sym is') (here-is.0, over, shown, here-is.3)
+
   -- while it is lent, a group is closed ahead, or none
   pub ahead_closed : (lent : Option (CommitJob E)) (gathering noted : Gathering) (remote : ℕ) (before after : Ahead) (old new : Sequencing) (closed : Result Bool Refusal)
       → GoesAhead old before.groups.items new after.groups.items → ClosesAhead gathering remote old before new after noted closed → IsHereOrLent device contents None lent before old
@@ -61,4 +78,7 @@ module _ {E : Type 0} (device : E → State) (contents : E → Contents) where
           let last = ap length one.last ∙ length-append before.groups.items (work.Commit one.group ∷ []) in
           record { fits = omega (arith, is.3.fits, room, last); none = λ other. absurd (let none = is.3.none other in omega (arith, none.1, room)) }
       by (Ok false) (never, same, same_ahead, same_noted) = rw same_ahead is.3
-      by (Err cause) (memory, due, same, items, room, same_noted) = rw (items, room) (record { fits = is.3.fits; none = is.3.none })
+      by (Err cause) (memory, due, same, items, room, same_noted) = record {
+        fits = omega (arith, is.3.fits, room, ap length items);
+        none = λ other. let none = is.3.none other in (items ∙ none.0, room ∙ none.1);
+      }

@@ -77,3 +77,8 @@ pub goes-with : (only more : Bool) → (only && not more) ≡ false → only ≡
 goes-with true true ends is = refl
 goes-with true false ends is = absurd (true≢false ends)
 goes-with false more ends is = absurd (true≢false (sym is))
+
+-- it ends so only where steps are taken for commits alone
+pub only-then : (only more : Bool) → (only && not more) ≡ true → only ≡ true
+only-then true more is = refl
+only-then false more is = absurd (true≢false (sym is))

@@ -188,6 +188,13 @@ module _ {E : Type 0} (device : E → State) (contents : E → Contents) (is_fau
         leaves = λ sound past kept. behind-leaves job.back before s past over kept;
       }
 
+  -- or none was
+  pub through-away : (remote : ℕ) (home home' lent : Option (CommitJob E)) (before after : Ahead) (s s' : Sequencing) → home ≡ None → home' ≡ None → IsHereOrLent device contents home lent before s
+      → s'.position ≡ s.position → GoesAhead s before.groups.items s' after.groups.items → Through remote (job_of home lent before) s (job_of home' lent after) s'
+  through-away remote home home' lent before after s s' none none' stood at goes =
+      let (job, lent_is, over, fits) = subst (λ (h : Option (CommitJob E)). IsHereOrLent device contents h lent before s) none stood in
+      rw (none, none', lent_is) (through-ahead remote job before.groups.items after.groups.items s s' over at goes)
+
   -- ---- while calls are made
 
   job-goes-on : (job : Jobs) (s s' : Sequencing) → JobStands job s → Serves s s' → (past : Past) → AreKeyspaces past → JobKeeps device contents is_faulted past job s

@@ -41,7 +41,7 @@ use Rattle.primary.specs.Ahead.{is_of_commit}
 use Rattle.primary.specs.Closing.{ClosesGroup}
 use Rattle.primary.proofs.BehindLemmas.{TakesWide, same-waiting}
 use Rattle.serving.specs.declared.ahead.Ahead.{Ahead}
-use Rattle.serving.proofs.BehindSteps.{Fits, all-behind, aside-stays, fits-then, untold, wide, wide_of}
+use Rattle.serving.proofs.BehindSteps.{Fits, all-behind, aside-stays, fits-then, taken-wide, untold, wide_of}
 use Rattle.serving.specs.CommitJob.{AreSteps, FitsBehind, IsExtended, IsStep}
 use Rattle.serving.specs.Stepping.{EndAs, answer_of, goes_on, is_passed, passed_on}
 use Rattle.serving.specs.Tending.{ClosesOrLacks, ComesBack, Fetches, HasStepsTaken, Tends, TendsJob, commits_alone, room_ahead}
@@ -174,14 +174,14 @@ module _ {E : Type 0} (device : E → State) (contents : E → Contents) (is_fau
 
   -- ---- steps for commits alone, with this behind the queue
 
-  module _ {P : Type 0} (remote : ℕ) (s : Sequencing) (behind : List Work) where
-    abbrev wide-node : (back : Back E) → Fits behind back → Node
-    wide-node back fits = node_of device contents is_faulted seats s [] back.committer (wide_of behind back fits)
+  abbrev wide-node : (s : Sequencing) (behind : List Work) (back : Back E) → Fits behind back → Node
+  wide-node s behind back fits = node_of device contents is_faulted seats s [] back.committer (wide_of behind back fits)
 
+  module _ {P : Type 0} (remote : ℕ) (s : Sequencing) (behind : List Work) where
     wide-step : (old : Back E) (link : RingOutlet Group P) (came : Result Done Refusal) (new : Back E) (link' : RingOutlet Group P) (is : IsStep device contents is_faulted remote old link came new link')
         (suits : is_of_commit (due_now contents old.committer old.work (nat_lt 0 (known_free link'.producer)) remote) ≡ true) (fits : Fits behind old)
         → is_ok (passed_on came) ≡ true
-        → BackActs (wide-node old fits) (gone_of link old) (wide-node new (fits-then device contents is_faulted remote behind old link came new link' is suits fits)) (gone_of link' new)
+        → BackActs (wide-node s behind old fits) (gone_of link old) (wide-node s behind new (fits-then device contents is_faulted remote behind old link came new link' is suits fits)) (gone_of link' new)
     wide-step old link came new link' is suits fits pass = by came refl pass
       where
         room : Bool
@@ -192,9 +192,9 @@ module _ {E : Type 0} (device : E → State) (contents : E → Contents) (is_fau
 
         taken : TakesWide device contents is_faulted offered_at (λ (end : RingOutlet Group P). known_free end.producer) old.committer new.committer old.work new.work link link' room remote came behind
             (wide_of behind old fits) (wide_of behind new fits') refl refl
-        taken = wide device contents is_faulted remote behind old link came new link' is suits fits
+        taken = taken-wide device contents is_faulted remote behind old link came new link' is suits fits
 
-        by : (answer : Result Done Refusal) → came ≡ answer → is_ok (passed_on answer) ≡ true → BackActs (wide-node old fits) (gone_of link old) (wide-node new fits') (gone_of link' new)
+        by : (answer : Result Done Refusal) → came ≡ answer → is_ok (passed_on answer) ≡ true → BackActs (wide-node s behind old fits) (gone_of link old) (wide-node s behind new fits') (gone_of link' new)
         by (Ok d) at pass =
             let took = subst (λ (answer : Result Done Refusal). Takes device contents is_faulted offered_at taken.rooms
             (due_now contents old.committer (wide_of behind old fits) room remote) room remote old.committer
@@ -202,7 +202,7 @@ module _ {E : Type 0} (device : E → State) (contents : E → Contents) (is_fau
             let was = turns-come device contents is_faulted offered_at taken.rooms seats s [] old.committer new.committer (wide_of behind old fits)
             (wide_of behind new fits') link link' room remote d took in
             let none : notices_of d ≡ [] = subst (λ (answer : Result Done Refusal). noted answer ≡ []) at (untold device contents is_faulted remote behind old link came new link' is suits fits) in
-            subst (λ (told : List Places). BackActs (wide-node old fits) (gone_of link old)
+            subst (λ (told : List Places). BackActs (wide-node s behind old fits) (gone_of link old)
             (node_of device contents is_faulted seats s told new.committer (wide_of behind new fits')) (gone_of link' new)) none
             (record { acts = acts_of (in_hand new.committer.stage) room remote (Ok d); are = was.0; offered = was.1 })
         by (Err refusal.Memory) at pass =
@@ -218,12 +218,12 @@ module _ {E : Type 0} (device : E → State) (contents : E → Contents) (is_fau
 
     wide-steps : (all : List (Result Done Refusal)) (old : Back E) (link : RingOutlet Group P) (new : Back E) (link' : RingOutlet Group P) → AllByRecursion (λ came. is_ok (passed_on came) ≡ true) all
         → AreSteps device contents is_faulted true remote old link all new link' → (fits : Fits behind old) (fits' : Fits behind new)
-        → BackActs (wide-node old fits) (gone_of link old) (wide-node new fits') (gone_of link' new)
+        → BackActs (wide-node s behind old fits) (gone_of link old) (wide-node s behind new fits') (gone_of link' new)
     wide-steps [] old link new link' pass steps fits fits' =
-        subst (λ (waiting : Waiting Work). BackActs (wide-node old fits) (gone_of link old) (node_of device contents is_faulted seats s [] new.committer waiting) (gone_of link' new))
+        subst (λ (waiting : Waiting Work). BackActs (wide-node s behind old fits) (gone_of link old) (node_of device contents is_faulted seats s [] new.committer waiting) (gone_of link' new))
         (same-waiting (wide_of behind old fits) (wide_of behind new fits')
         (ap (λ (back : Back E). back.work.items ++ behind) (sym steps.0)))
-        (rw (steps.0, steps.1) (no-acts (wide-node old fits) (gone_of link old)))
+        (rw (steps.0, steps.1) (no-acts (wide-node s behind old fits) (gone_of link old)))
     wide-steps (came ∷ all) old link new link' pass (between, at, is, suits, steps) fits fits' =
         then-acts (wide-step old link came between at is (suits refl) fits pass.0)
         (wide-steps all between at new link' pass.1 steps (fits-then device contents is_faulted remote behind old link came between at is (suits refl) fits) fits')
@@ -399,8 +399,13 @@ module _ {E : Type 0} (device : E → State) (contents : E → Contents) (is_fau
   no-does : (s : Sequencing) (job : CommitJob E) → DoesOr s job s job
   no-does s job = inl (does-by s s job job (no-acts (node s [] job.back) (gone_of job.groups job.back)))
 
+  -- whatever it is lent for
+  for-any : (job : CommitJob E) (only : Bool) (old new : Sequencing) (job' : CommitJob E) → DoesOr old (record job { is_for_commits = only }) new job' → DoesOr old job new job'
+  for-any job only old new job' (inl does) = inl (record { acts = does.acts; are = does.are; offered = does.offered })
+  for-any job only old new job' (inr vain) = inr vain
+
   -- a job that is lent has as much room ahead as its queue has left
-  lent-fits : (job : CommitJob E) (ahead : Ahead) → ahead.groups.items ≡ []
+  pub lent-fits : (job : CommitJob E) (ahead : Ahead) → ahead.groups.items ≡ []
       → FitsBehind (record job { is_for_commits = commits_alone device contents is_faulted job }) (record ahead { room = room_ahead device contents is_faulted job })
   lent-fits job ahead none = by (commits_alone device contents is_faulted job) refl
     where
@@ -426,9 +431,10 @@ module _ {E : Type 0} (device : E → State) (contents : E → Contents) (is_fau
       rw (home, same_ahead, same) (record { job' = job; is_job = (refl, none); does = no-does old job })
   steps-taken heard is_short job lender ahead old home' lender' ahead' new came.Lent none (due, long, home, lent, room, same) =
       let out = record job { is_for_commits = commits_alone device contents is_faulted job } in
-      rw (home, lent, room, same) (record { job' = out; is_job = (out, refl, lent-fits job ahead none, extends-alone out ahead.groups.items none); does = no-does old job })
+      rw (home, lent, room, same) (record { job' = out; is_job = (out, refl, lent-fits job ahead none, extends-alone out ahead.groups.items none);
+        does = inl (does-by old old job out (no-acts (node old [] job.back) (gone_of job.groups job.back))) })
   steps-taken heard is_short job lender ahead old home' lender' ahead' new (came.Stepped did) none (due, short, job', home, lent, same_ahead, back) =
-      rw (home, same_ahead) (record { job' = job'; is_job = (refl, none); does = comes-acts (record job { is_for_commits = false }) job' old new did back })
+      rw (home, same_ahead) (record { job' = job'; is_job = (refl, none); does = for-any job false old new job' (comes-acts (record job { is_for_commits = false }) job' old new did back) })
 
   tends-job : (read : MarkView) (is_short : Bool) (gathering noted : Gathering) (job : CommitJob E) (lender : EndView (CommitJob E)) (ahead : Ahead) (old : Sequencing) (home' : Option (CommitJob E)) (lender' : EndView (CommitJob E)) (ahead' : Ahead)
       (new : Sequencing) (tended : Tended) → is_ok tended.closed ≡ true → ahead.groups.items ≡ [] → TendsJob device contents is_faulted read is_short gathering noted job lender ahead old home' lender' ahead' new tended → JobActs old job home' lender' ahead' new

@@ -66,15 +66,19 @@ pub(crate) fn close_due_ahead<K: Keyspace>(
     ensures at { front.new.sequencer.position ≡ front.old.sequencer.position }
     ensures goes { GoesAhead front.old.sequencer ahead.old.groups.items front.new.sequencer ahead.new.groups.items }
 {
-    let position = front.position();
-    if ahead.room == 0 || !gathering.is_ahead_due(position, remote) {
+    let served = front.position();
+    if ahead.room == 0 {
         return Ok(false);
     }
-    if !close_ahead(alloc, front, &mut ahead.groups)? {
+    if !gathering.is_ahead_due(served, remote) {
+        return Ok(false);
+    }
+    let is_closed = close_ahead(alloc, front, &mut ahead.groups)?;
+    if !is_closed {
         return Ok(false);
     }
     ahead.room -= 1;
-    gathering.closed = front.position();
+    gathering.closed = served;
     Ok(true)
 }
 

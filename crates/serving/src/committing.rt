@@ -22,8 +22,9 @@ use std::alloc::Global;
 use wakes::Waker;
 use wbl_engine::Durable;
 
-/// How many steps the committer takes before the connections are served again, or what they changed is looked at.
-const MOST_STEPS: usize = 8;
+/// How many steps the committer takes before the connections are served again, or what they changed is looked at: enough for all that may be on its way
+/// (`MOST_ON_THE_WAY`) to be committed, told of and handed on, in full groups and the smaller ones before them.
+const MOST_STEPS: usize = 32;
 
 /// What some steps came to: the last of them, and whether any did something. Only the last may have freed what the front is to be told of.
 #[derive(Drop)]
@@ -105,7 +106,8 @@ pub(crate) fn take_steps<E: Durable>(
             return Ok(Stepped { last: done, any });
         }
         let has_more = is_commit_due(back, false, remote);
-        if is_for_commits & !has_more {
+        let is_over = is_for_commits & !has_more;
+        if is_over {
             let last = Done::Idle;
             return Ok(Stepped { last, any });
         }

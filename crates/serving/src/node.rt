@@ -158,8 +158,7 @@ fn take_rounds<R: Wait + Clock, E: Durable + Drop, K: Keyspace>(
 }
 
 /// Takes the job back if it is done and has committed what is due, so that this goes on while connections are served. Then it has committed what became due
-/// meanwhile. Answers whether anything was done. The job goes by no more of the remote mark than was read of it. How much the front holds in the end is
-/// shown.
+/// meanwhile. Shows how much the front holds. Answers whether anything was done. The job goes by no more of the remote mark than was read of it.
 ///
 /// # Errors
 ///
@@ -312,11 +311,10 @@ fn fetch<E: Durable + Drop, K: Keyspace>(
     if home.is_some() {
         return Ok(Fetched::Here);
     }
-    let job = match lender.take_back() {
+    let mut job = match lender.take_back() {
         Ok(job) => job,
         Err(not_yet) => return Ok(Fetched::Away(not_yet)),
     };
-    let mut job = job;
     take_ahead(&mut ahead.groups, &mut job.back);
     ahead.room = 0;
     let did = settle(front, &job);
@@ -324,9 +322,9 @@ fn fetch<E: Durable + Drop, K: Keyspace>(
     Ok(Fetched::Back(did?))
 }
 
-/// Closes what is due. Where a step is due then, and steps take long, the job is lent; otherwise its steps are taken here. While the job is lent, only what is due ahead
-/// is closed. Before the standby was heard in this
-/// opening (`is_heard`) no step is taken: so a copy of an older image, which the standby is ahead of, stays behind it for good. Answers what was done.
+/// Closes what is due, or, while the job is lent, what is due ahead of it. Where a step is due then, and steps take long, the job is lent; otherwise its steps are
+/// taken here. Before the standby was heard in this opening (`is_heard`) no step is taken: so a copy of an older image, which the standby is ahead of, stays
+/// behind it for good. Answers what was done.
 ///
 /// # Errors
 ///
@@ -375,7 +373,7 @@ fn commit<R: Clock, E: Durable + Drop, K: Keyspace>(
     }
     if job.step_time.is_long {
         job.is_for_commits = is_commit_due(&job.back, has_room, remote);
-        ahead.room = if job.is_for_commits { job.back.room() } else { 0 };
+        ahead.allow(&job.back, job.is_for_commits);
         lender.lend(job);
         waker.wake();
         return Ok(Tended {

@@ -1,4 +1,4 @@
-use Rattle.std.proofs.Common.{rules, ◌≡◌, nat_lt, Bool, false, ◌||◌, [], ◌∷◌, ◌++◌, Err, Result, sym, ap, subst, ◌∙◌, arith}
+use Rattle.std.proofs.Common.{rules, ◌≡◌, ◌+◌, nat_lt, Bool, true≢false, false, ◌||◌, [], ◌∷◌, ◌++◌, Err, Result, sym, ap, subst, ◌∙◌, arith}
 use Rattle.std.proofs.lemmas.Result.{err_from_is_err_and}
 use Rattle.kv_types.specs.declared.refusal.Refusal.{Refusal}
 use Rattle.group_commit.specs.declared.stage.Done.{Done}
@@ -7,7 +7,7 @@ use Rattle.pipes.specs.Ring.{offered_at}
 use Rattle.serving.specs.Keeping.{KeepsThrough}
 use Rattle.serving.proofs.EndingLemmas.{ends-here, ends-most, ends-refused, none-yet, one-more}
 use Rattle.serving.specs.declared.committing.TheConstants.{MOST_STEPS}
-use Rattle.serving.proofs.InHandLemmas.{goes-with, in-hand-now, suits-then}
+use Rattle.serving.proofs.InHandLemmas.{goes-with, in-hand-now, only-then, suits-then}
 use Rattle.serving.proofs.KeepingLemmas.{through-err, through-none, through-ok, through-then}
 use Rattle.serving.proofs.StepsLemmas.{steps-more}
 use Rattle.serving.proofs.committing.take_steps.Goals as goal
@@ -74,6 +74,36 @@ returns-then-not-gives_nothing_back-clause-steps g c =
           (sym c.gives_nothing_back.ensures.passed ∙ search rules) (ap (λ (b : Bool). c.loop.any || b) c.is_something-any.ensures),
     )
 
+-- nothing is in hand
+pub returns-then-is_over-clause-stands : goal.returns-then-is_over-clause-stands
+returns-then-is_over-clause-stands g c = λ s over. rw (c.gives_nothing_back.ensures.nothing (search rules)) at (c.in_ok-done.ensures.stands s (c.loop.invariant.2 s over))
+
+pub returns-then-is_over-clause-past : goal.returns-then-is_over-clause-past
+returns-then-is_over-clause-past g c =
+    let E = g.E.Durable in
+    let past = through-then E.device E.contents E.is_faulted c.args.remote c.args.back.now c.loop.back c.take_step.new.back c.loop.any c.take_step.result c.loop.invariant.2 c.loop.invariant.4
+    c.take_step.ensures.past in
+    through-ok E.device E.contents E.is_faulted c.args.remote c.args.back.now c.take_step.new.back c.in_ok-done.done _
+    (subst (λ (r : Result Done Refusal). KeepsThrough E.device E.contents E.is_faulted c.args.remote c.args.back.now r c.take_step.new.back) c.in_ok-done.was past)
+
+pub returns-then-is_over-clause-steps : goal.returns-then-is_over-clause-steps
+returns-then-is_over-clause-steps g c =
+    let E = g.E.Durable in
+    let before = c.loop.invariant.3 in
+    let step = c.take_step.ensures.step in
+    let only = only-then c.args.is_for_commits c.is_commit_due-has_more.result (search rules) in (
+      before.0 ++ step.0 ∷ [],
+      steps-more E.device E.contents E.is_faulted c.args.is_for_commits c.args.remote c.args.back.now c.loop.back c.take_step.new.back c.args.groups.now c.loop.groups c.take_step.new.groups
+          before.0 step.0 before.1 step.1
+          (λ is.
+          suits-then E.device E.contents E.is_faulted offered_at (λ end. known_free end.producer) c.loop.back.committer c.take_step.new.back.committer c.loop.back.work c.take_step.new.back.work
+          c.loop.groups c.take_step.new.groups c.args.remote step.0 step.1 (c.loop.invariant.5 is)),
+      ends-most c.args.is_for_commits (before.0 ++ step.0 ∷ []) (c.loop.counter + 1) _
+          (one-more before.0 c.loop.counter c.loop.any _ step.0 c.in_ok-done.done before.2 (sym c.in_ok-done.was ∙ step.2) (sym c.gives_nothing_back.ensures.passed ∙ search rules)
+          (ap (λ (b : Bool). c.loop.any || b) c.is_something-any.ensures))
+          (omega arith) (λ none. absurd (true≢false (sym only ∙ none))),
+    )
+
 pub loop-preserved : goal.loop-preserved
 loop-preserved g c =
     let E = g.E.Durable in
@@ -90,9 +120,9 @@ loop-preserved g c =
         before.0 ++ step.0 ∷ [],
         steps-more E.device E.contents E.is_faulted c.args.is_for_commits c.args.remote c.args.back.now c.loop.back c.take_step.new.back c.args.groups.now c.loop.groups c.take_step.new.groups
             before.0 step.0 before.1 step.1
-          (λ is.
-          suits-then E.device E.contents E.is_faulted offered_at (λ end. known_free end.producer) c.loop.back.committer c.take_step.new.back.committer c.loop.back.work c.take_step.new.back.work
-          c.loop.groups c.take_step.new.groups c.args.remote step.0 step.1 (c.loop.invariant.5 is)),
+            (λ is.
+            suits-then E.device E.contents E.is_faulted offered_at (λ end. known_free end.producer) c.loop.back.committer c.take_step.new.back.committer c.loop.back.work c.take_step.new.back.work
+            c.loop.groups c.take_step.new.groups c.args.remote step.0 step.1 (c.loop.invariant.5 is)),
         one-more before.0 c.loop.counter c.loop.any _ step.0 c.in_ok-done.done before.2 (sym c.in_ok-done.was ∙ step.2) (sym c.gives_nothing_back.ensures.passed ∙ search rules)
             (ap (λ (b : Bool). c.loop.any || b) c.is_something-any.ensures),
       ),
