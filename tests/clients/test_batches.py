@@ -13,8 +13,8 @@ PROGRAMS = ["server"]
 IS_SLOW = True
 IS_ALONE = True
 
-# How long each sync of the primary takes once the held one is over, and how many changes are sent while it is held: three groups, as with the first one no more
-# than four are on their way.
+# How long each sync of the primary takes once the held one is over, and how many changes are sent while it is held: three groups, as one connection has no more
+# than 256 replies that wait.
 SLOW_MILLISECONDS, CHANGES = 400, 3 * 64
 
 

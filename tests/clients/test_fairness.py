@@ -23,8 +23,8 @@ SECONDS, ASKED, PIPELINES = 6, 15, (1, 3, 50)
 # long values some ten; what the machine does beside it may be ten times as much. One that waits for a pipeline waits for all that is sent meanwhile, which is
 # without end here.
 MOST = {100: 30_000, 4_096: 10_000, 65_536: 2_000, 1_048_576: 200}
-# The same where each sync of the standby takes so many milliseconds more and the primary's none, so that whatever is on its way waits there: four groups'
-# changes are, and one more may be full.
+# The same where each sync of the standby takes so many milliseconds more and the primary's none, so that whatever is on its way waits there: sixteen groups'
+# changes are, and one more may be full; half of them are INCRs.
 SLOW_MILLISECONDS, MOST_WHERE_SLOW = 2, 1_000
 
 

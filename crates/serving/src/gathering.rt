@@ -11,9 +11,10 @@ use model::MAX_PARTS;
 pub(crate) const LISTED_AT_ONCE: usize = 1_024;
 
 /// While so many changes are in groups that the standby has not acknowledged, no further group is closed, and so, behind `MAX_PARTS` changes more, no request is
-/// turned: whoever asks next waits for the changes of five groups at most, and its own group, however much others send and however slow the standby is. Each node
-/// commits one group meanwhile, and two are between them; half as many cost clients with deep pipelines an eighth of what they get.
-pub(crate) const MOST_ON_THE_WAY: u64 = 4 * MAX_PARTS as u64;
+/// turned: whoever asks next waits for the changes of seventeen groups at most, and its own group, however much others send and however slow the standby is. It
+/// bounds what one sync of either node may be for, and of values no more than seventeen groups of `MOST_LINES` are on their way. So 50 clients that each have 16
+/// requests on their way find room for all 800 of them.
+pub(crate) const MOST_ON_THE_WAY: u64 = 16 * MAX_PARTS as u64;
 
 /// After so many rounds in a row without work the node is idle: its thread is about to sleep.
 const IDLE_ROUNDS: u32 = NODE_SPIN;
