@@ -431,8 +431,11 @@ module _ {E : Type 0} (device : E → State) (contents : E → Contents) (is_fau
       rw (home, same_ahead, same) (record { job' = job; is_job = (refl, none); does = no-does old job })
   steps-taken heard is_short job lender ahead old home' lender' ahead' new came.Lent none (due, long, home, lent, room, same) =
       let out = record job { is_for_commits = commits_alone device contents is_faulted job } in
-      rw (home, lent, room, same) (record { job' = out; is_job = (out, refl, lent-fits job ahead none, extends-alone out ahead.groups.items none);
-        does = inl (does-by old old job out (no-acts (node old [] job.back) (gone_of job.groups job.back))) })
+      rw (home, lent, room, same) (record {
+        job' = out;
+        is_job = (out, refl, lent-fits job ahead none, extends-alone out ahead.groups.items none);
+        does = inl (does-by old old job out (no-acts (node old [] job.back) (gone_of job.groups job.back)));
+      })
   steps-taken heard is_short job lender ahead old home' lender' ahead' new (came.Stepped did) none (due, short, job', home, lent, same_ahead, back) =
       rw (home, same_ahead) (record { job' = job'; is_job = (refl, none); does = for-any job false old new job' (comes-acts (record job { is_for_commits = false }) job' old new did back) })
 

@@ -122,9 +122,14 @@ returns-then-job-clause-tends g c read is_remote is_heard =
       by = sym is_remote;
       offered = c.room-has_room.ensures.unchanged;
       times = refl;
-      steps = (due-by read.heard c.args.is_heard _ _ _ is_heard (due-known E.contents closed.new.back c.is_due.result (known_free c.room-has_room.new.self.producer) c.room-has_room.result c.args.remote c.room-has_room.ensures.value c.args.is_heard c.args.is_short c.is_due.ensures) (search rules), c.if-job.true, c.take.ensures.after,
-          c.lend.ensures ∙ ap (λ (b : Bool). record c.args.lender.now { value = Some (record ready { is_for_commits = b }) }) only,
-          c.allow.ensures ∙ ap (λ (b : Bool). record c.args.ahead.now { room = if b then PIPE_ITEMS - length closed.new.back.work.items else 0 }) only, refl);
+      steps = (
+        due-by read.heard c.args.is_heard _ _ _ is_heard (due-known E.contents closed.new.back c.is_due.result (known_free c.room-has_room.new.self.producer) c.room-has_room.result c.args.remote c.room-has_room.ensures.value c.args.is_heard c.args.is_short c.is_due.ensures) (search rules),
+        c.if-job.true,
+        c.take.ensures.after,
+        c.lend.ensures ∙ ap (λ (b : Bool). record c.args.lender.now { value = Some (record ready { is_for_commits = b }) }) only,
+        c.allow.ensures ∙ ap (λ (b : Bool). record c.args.ahead.now { room = if b then PIPE_ITEMS - length closed.new.back.work.items else 0 }) only,
+        refl,
+      );
     })
 
 pub returns-clause-tends : goal.returns-clause-tends
