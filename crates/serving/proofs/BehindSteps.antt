@@ -1,5 +1,5 @@
 -- Steps for commits alone, over a job behind whose queue more waits: it is as if the committer saw it.
-use Rattle.std.proofs.Common.{◌≡◌, ◌≤◌, ℕ, Bool, true, false, true≢false, nat_lt, List, [], ◌∷◌, ◌++◌, length, is_ok, Result, Ok, Err, IfOk, OnOk, IsErrOf, refl, sym, ap, subst, ◌∙◌, inl, inr, arith, length-append, append-nil}
+use Rattle.std.proofs.Common.{◌≡◌, ◌≤◌, ℕ, Bool, true, false, true≢false, nat_lt, List, [], ◌∷◌, ◌++◌, length, is_ok, Result, Ok, Err, IfOk, OnOk, IsErrOf, refl, sym, ap, subst, ◌∙◌, inl, inr, arith, length-append}
 use Rattle.std.specs.List.{AllByRecursion}
 use Rattle.pmem.specs.Device.{State}
 use Rattle.pmem.specs.Runs.{LeavesOnly}

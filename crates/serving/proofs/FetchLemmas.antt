@@ -1,5 +1,5 @@
 -- A job that is lent, and that comes back, with what was closed ahead put last in its queue.
-use Rattle.std.proofs.Common.{◌≡◌, ◌≤◌, ◌+◌, ◌-◌, ℕ, Bool, true, false, List, [], ◌++◌, length, Option, Some, None, Result, Ok, Err, if◌then◌else◌, refl, sym, ap, subst, ◌∙◌, arith, length-append, append-nil}
+use Rattle.std.proofs.Common.{◌≡◌, ◌≤◌, ◌+◌, ◌-◌, ℕ, Bool, true, false, List, [], ◌++◌, length, Option, Some, None, Result, Ok, Err, if◌then◌else◌, refl, sym, ap, subst, ◌∙◌, arith, length-append}
 use Rattle.lending.specs.declared.view.EndView.{EndView}
 use Rattle.pmem.specs.Device.{State}
 use Rattle.pmem.specs.Runs.{LeavesOnly}
@@ -7,19 +7,16 @@ use Rattle.kv_types.specs.declared.refusal.Refusal.{Refusal}
 use Rattle.model.specs.declared.work.Work.{Work}
 use Rattle.model.specs.Group.{Contents}
 use Rattle.wbl_engine.specs.declared.freeing.Freed.{Freed as Places}
-use Rattle.pipes.specs.Waiting.{Waiting}
 use Rattle.pipes.specs.declared.limits.TheConstants.{PIPE_ITEMS}
 use Rattle.redis_core.specs.Sequencing.{Sequencing}
 use Rattle.group_commit.specs.declared.committer.Committer.{Committer}
-use Rattle.primary.specs.declared.back.Back.{Back}
 use Rattle.primary.specs.Recalling.{BackKeeps, ImageRecalls, Past}
 use Rattle.primary.specs.Standing.{BackStands, StandsOver, notices_of}
-use Rattle.primary.proofs.BehindLemmas.{same-waiting}
 use Rattle.serving.specs.declared.ahead.Ahead.{Ahead}
 use Rattle.serving.specs.declared.commit_job.CommitJob.{CommitJob}
 use Rattle.serving.specs.declared.committing.Stepped.{Stepped}
 use Rattle.serving.specs.CommitJob.{AreSteps, DoesSteps, FitsBehind, IsExtended, IsHereOrLent, StandsAfter, StandsBehind}
-use Rattle.serving.specs.Keeping.{Held, JobKeepsThrough}
+use Rattle.serving.specs.Keeping.{JobKeepsThrough}
 use Rattle.serving.specs.Stepping.{EndAs}
 use Rattle.serving.specs.Tending.{commits_alone}
 use Rattle.serving.proofs.BehindSteps.{AllBehind, all-behind, all-fit}

@@ -1,5 +1,5 @@
 -- Where a step is due that commits groups, tells of one or hands one on.
-use Rattle.std.proofs.Common.{◌≡◌, ◌≤◌, ◌<◌, ℕ, Bool, true, false, true≢false, cond, ◌&&◌, nat_le, nat_lt, length, List, [], ◌∷◌, ◌⊎◌, inl, inr, Result, refl, sym, ap, subst, ◌∙◌, arith, not, lt-ltb}
+use Rattle.std.proofs.Common.{◌≡◌, ◌≤◌, ℕ, Bool, true, false, true≢false, cond, ◌&&◌, nat_le, nat_lt, length, List, [], ◌∷◌, inl, inr, Result, refl, sym, ap, ◌∙◌, arith, not, lt-ltb}
 use Rattle.std.proofs.lemmas.Bool.{cases_Bool, ltb-true}
 use Rattle.pmem.specs.Device.{State}
 use Rattle.kv_types.specs.declared.refusal.Refusal.{Refusal}

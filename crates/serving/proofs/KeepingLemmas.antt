@@ -20,7 +20,7 @@ use Rattle.serving.specs.Serving.{Serves}
 use Rattle.serving.specs.declared.ahead.Ahead.{Ahead}
 use Rattle.serving.specs.declared.commit_job.CommitJob.{CommitJob}
 use Rattle.serving.specs.declared.committing.Stepped.{Stepped}
-use Rattle.serving.proofs.HereOrLent.{alone-behind, behind-alone}
+use Rattle.serving.proofs.HereOrLent.{alone-behind}
 
 module _ {E : Type 0} (device : E → State) (contents : E → Contents) (is_faulted : E → Bool) where
   abbrev Over : Back E → Sequencing → Type 0

@@ -1,9 +1,7 @@
-use Rattle.std.proofs.Common.{rules, ◌≡◌, Bool, Result, Err, arith, refl, sym, ap, subst, ◌∙◌}
+use Rattle.std.proofs.Common.{rules, Bool, Result, Err, arith, refl, sym, ap, subst, ◌∙◌}
 use Rattle.std.proofs.lemmas.Result.{err_from_is_err_and}
 use Rattle.kv_types.specs.declared.refusal.Refusal.{Refusal}
 use Rattle.serving.specs.Closing.{ClosesAhead}
-use Rattle.serving.specs.declared.ahead.Ahead.{Ahead}
-use Rattle.serving.specs.declared.gathering.Gathering.{Gathering}
 use Rattle.serving.proofs.ClosingLemmas.{due-ahead, goes-same, not-due-ahead}
 use Rattle.serving.proofs.closing.close_due_ahead.Goals as goal
 

@@ -1,15 +1,15 @@
-use Rattle.std.proofs.Common.{◌≡◌, ◌-◌, ℕ, Bool, Option, List, None, Some, [], length, if◌then◌else◌, rules, refl, sym, subst, ap, le_refl, ◌∙◌}
+use Rattle.std.proofs.Common.{◌≡◌, ◌-◌, ℕ, Bool, List, None, Some, length, if◌then◌else◌, rules, refl, sym, subst, ap, le_refl, ◌∙◌}
 use Rattle.lending.specs.declared.view.EndView.{EndView}
 use Rattle.model.specs.declared.work.Work.{Work}
 use Rattle.rtrb.specs.Ring.{known_free}
 use Rattle.pipes.specs.declared.limits.TheConstants.{PIPE_ITEMS}
 use Rattle.serving.specs.CommitJob.{IsHereOrLent}
-use Rattle.serving.specs.Keeping.{Held, job_of}
+use Rattle.serving.specs.Keeping.{job_of}
 use Rattle.serving.specs.declared.ahead.Ahead.{Ahead}
 use Rattle.serving.specs.declared.commit_job.CommitJob.{CommitJob}
 use Rattle.serving.proofs.FetchLemmas.{lent-out}
 use Rattle.serving.proofs.HereOrLent.{ahead_closed, here-none, here-shown, here-then}
-use Rattle.serving.proofs.KeepingLemmas.{here, job-over, job-stands, job-through-then, through-as, through-away, through-closed, through-steps}
+use Rattle.serving.proofs.KeepingLemmas.{here, job-over, job-through-then, through-as, through-away, through-closed, through-steps}
 use Rattle.serving.specs.Closing.{ClosesAhead}
 use Rattle.serving.specs.Tending.{ClosesOrLacks}
 use Rattle.serving.proofs.TendingLemmas.{closes-or-lacks, commits-known, due-by, due-known, tends-away, tends-home}

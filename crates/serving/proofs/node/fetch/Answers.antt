@@ -1,5 +1,5 @@
 use Rattle.std.proofs.Common.{◌≡◌, ◌∙◌, None, Some, [], ap, arith, refl, rules}
-use Rattle.serving.specs.CommitJob.{IsExtended, remote_of}
+use Rattle.serving.specs.CommitJob.{remote_of}
 use Rattle.serving.specs.Keeping.{job_of}
 use Rattle.serving.specs.declared.commit_job.CommitJob.{CommitJob}
 use Rattle.serving.proofs.FetchLemmas.{fetch-fits, fetch-stands, through-fetched}
