@@ -12,7 +12,7 @@ from common import SECONDS, program, without_news
 from pair import Ended, greet
 from plain_image import LAYOUT, PRIMARY, STANDBY, Words
 from plain_keyspace import Clear, Drop, DropKey, Put
-from plain_wire import Greeting, Group
+from plain_wire import ACK_BYTES, Greeting, Group, text
 from test_images import FAILED, LINES, ROLES, Images, image_bytes, words_of
 
 LIMIT = 2**62
@@ -129,6 +129,16 @@ class Node:
             with contextlib.suppress(ConnectionError):
                 while more := link.recv(2**16):
                     answered += more
+        return answered
+
+    def exchange_each(self, frames, piece=2**20):
+        """All that is answered to these frames, each of which is sent, in pieces, once the one before it was answered."""
+        with self.link() as link:
+            answered = link.recv(ACK_BYTES, socket.MSG_WAITALL)
+            for data in map(text, frames):
+                for at in range(0, len(data), piece):
+                    link.sendall(data[at:at + piece])
+                answered += link.recv(ACK_BYTES, socket.MSG_WAITALL)
         return answered
 
     def ended(self):

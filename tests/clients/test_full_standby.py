@@ -126,7 +126,7 @@ class FullStandby(StandingBy):
     def assert_taken(self, node, position, parts):
         frames = [Group(1, at, at + 1, changes) for at, changes in enumerate(parts, position)]
         acknowledgements = [Acknowledgement(1, at) for at in range(position, position + len(parts) + 1)]
-        self.assertEqual(node.exchange(b"".join(map(text, frames))), b"".join(map(text, acknowledgements)))
+        self.assertEqual(node.exchange_each(frames), b"".join(map(text, acknowledgements)))
 
     def given(self, path, noting):
         """The number of the record, its last stamp, and how often the image was synced, while nothing is written."""

@@ -25,6 +25,12 @@ def begins_of(entries):
     return [(plain_image.DIRECTORY_LINE + entry) * plain_image.WORDS_OF_LINE for entry in entries]
 
 
+def position_of(answered):
+    """The position of the last acknowledgement that is whole in these bytes."""
+    end = len(answered) // ACK_BYTES * ACK_BYTES
+    return int.from_bytes(answered[end - 8:end], "big")
+
+
 class Following(StandingBy):
     def assert_holds(self, path, writer):
         """The file has just the words that the frames leave, each where docs/image.md has it; what had ended may be freed, where nothing came for a second."""
@@ -61,7 +67,7 @@ class Following(StandingBy):
                     with Node(path) as node:
                         frames = [*drawn_frames(draws, writer.record.position, 12)]
                         positions = [writer.record.position, *[frame.after for frame in frames]]
-                        found = node.exchange(b"".join(map(text, frames)), piece)
+                        found = node.exchange_each(frames, piece)
                         self.assert_bytes(found, b"".join(text(Acknowledgement(1, at)) for at in positions))
                         for frame in frames:
                             self.assertTrue(take(writer, frame))
@@ -122,7 +128,7 @@ class Following(StandingBy):
                     frames = [*drawn_frames(draws, writer.record.position, 6)]
                     answers = [writer.record.position, *[frame.after for frame in frames]]
                     with Node(path) as node:
-                        found = node.exchange(b"".join(map(text, frames)))
+                        found = node.exchange_each(frames)
                     self.assert_bytes(found, b"".join(text(Acknowledgement(1, at)) for at in answers))
                     for frame in frames:
                         take(writer, frame)
@@ -321,8 +327,8 @@ class Killed(StandingBy):
                 frames = [*drawn_frames(draws, 0, 300)]
                 with Node(path) as node, node.link() as link:
                     link.sendall(b"".join(map(text, frames)))
-                    wanted, found = ACK_BYTES * draws.randint(1, 250), b""
-                    while len(found) < wanted and (more := link.recv(2**16)):
+                    wanted, found = frames[draws.randrange(250)].before, b""
+                    while (not found or position_of(found) < wanted) and (more := link.recv(2**16)):
                         found += more
                     node.child.send_signal(signal.SIGKILL)
                     node.child.wait()
@@ -330,10 +336,9 @@ class Killed(StandingBy):
                     with contextlib.suppress(ConnectionError):
                         while more := link.recv(2**16):
                             found += more
-                told = len(found) // ACK_BYTES - 1
                 image = plain_image.read_image(self.words(path))
+                self.assertLessEqual(position_of(found), image.record.position)
                 taken = next(count for count, frame in enumerate([*frames, None]) if frame is None or frame.before == image.record.position)
-                self.assertLessEqual(told, taken)
                 for frame in frames[:taken]:
                     self.assertTrue(take(writer, frame))
                 self.assertEqual(image.map, plain_image.read_image(Words(LINES, writer.words)).map)
