@@ -5,8 +5,10 @@ Where there is no gcc each test that notes calls is skipped, and says so."""
 
 import contextlib
 import itertools
+import os
 import pathlib
 import random
+import shutil
 import subprocess
 import tempfile
 import threading
@@ -33,6 +35,12 @@ CALLS, KEYS = 150, 7
 # How many of the files that cuts leave are opened by the program.
 OPENED = 12
 COPIES, ROUNDS = 100, 6
+# (of kills with --long)
+MORE_ROUNDS = 100
+
+
+# What starts a script with file systems of its own.
+APART = [shutil.which("unshare") or "unshare", "--mount", "--map-root-user", "sh", "-c"]
 
 
 def generation_of(data):
@@ -241,7 +249,8 @@ class Kills(PairCases):
     def test_kills(self):
         nodes = self.pair(lines=LINES)
         load, draws = Load(nodes), random.Random()
-        for number in range(ROUNDS):
+        rounds = MORE_ROUNDS if common.IS_LONG else ROUNDS
+        for number in range(rounds):
             with self.case("round", number=number):
                 load.start()
                 load.wait_for(draws.randrange(1, 20) * WRITERS)
@@ -264,7 +273,7 @@ class Kills(PairCases):
                 load.check(f"after round {number}")
         self.assertEqual(self.assert_positions(nodes), (load.answered(), load.answered()))
         # (more often than it was opened)
-        self.assertGreater(generation_of(nodes.primary.image.read_bytes()), ROUNDS + 1)
+        self.assertGreater(generation_of(nodes.primary.image.read_bytes()), rounds + 1)
 
     def test_a_file_that_is_cut_short(self):
         """Beside a node that runs: its next sync fails, and nothing more is answered; so where it is made longer."""
@@ -287,6 +296,49 @@ class Kills(PairCases):
                 if change > 0:
                     self.assertIn(nodes.primary.inspect()["position"], (1, 2))
                 nodes.close()
+
+
+class FullDisks(PairCases):
+    """Either node over an image on a file system of its own, which has no room but for the image: it goes on over many generations, since its journal has all of its
+    room from the first."""
+
+    # Changes that take more than two parts.
+    CHANGES = 200
+
+    def test_it_goes_on(self):
+        nodes = self.pair(lines=LINES, has_number=True)
+        if subprocess.run([*APART, "mount -t tmpfs none /mnt"], capture_output=True, check=False).returncode:
+            self.skipTest("no file system may be mounted here")
+        for node in (nodes.standby, nodes.primary):
+            with self.case("node", role=node.role):
+                self.move_to_a_full_disk(nodes, node)
+                begun = generation_of(self.read_there(node))
+                with nodes.client() as client:
+                    for number in range(self.CHANGES):
+                        self.assertEqual(client.ask("INCR", node.role), integer(number + 1))
+                self.assertGreater(generation_of(self.read_there(node)), begun + 2)
+                self.assertEqual(read(self.read_there(node))[1][node.role.encode(),], b"%d" % self.CHANGES)
+        self.assertTrue(nodes.primary.is_running() and nodes.standby.is_running())
+
+    def move_to_a_full_disk(self, nodes, node):
+        """Starts it over its image, copied there with all of its bytes; a file takes what room is left."""
+        node.end()
+        node.there = nodes.folder / node.role
+        node.there.mkdir()
+        node.words[node.words.index("--image") + 1] = str(node.there / "node.img")
+        script = (f"mount -t tmpfs -o size=600k none {node.there} && cp --sparse=never {node.image} {node.there}/node.img || exit 99\n"
+                  f"head -c 1000000 /dev/zero > {node.there}/filler 2> /dev/null\n" 'exec "$0" "$@"')
+        node.before = [*APART, script]
+        node.start()
+        nodes.wait()
+        self.assertEqual(os.statvfs(self.seen(node)).f_bavail, 0)
+
+    def seen(self, node):
+        """Where its folder is seen from without."""
+        return pathlib.Path(f"/proc/{node.process.pid}/root/{node.there}")
+
+    def read_there(self, node):
+        return (self.seen(node) / "node.img").read_bytes()
 
 
 class Generations(PairCases):

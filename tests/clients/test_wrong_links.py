@@ -157,6 +157,38 @@ class FakeStandby(PairCases):
         return link
 
 
+class Names(PairCases):
+    """Addresses whose host has no number."""
+
+    NOWHERE, CAUSE = "no-such-host.invalid:7800", b"the name of the host does not resolve"
+
+    def test_of_a_standby(self):
+        """The primary tells that, and not that nobody takes a connection; it goes on dialing, and its clients are served what waits for no standby."""
+        nodes = self.pair()
+        nodes.primary.end()
+        nodes.primary.words[nodes.primary.words.index("--link") + 1] = self.NOWHERE
+        nodes.primary.errors.unlink()
+        nodes.primary.start()
+        told = b"no link to %s: %s\n" % (self.NOWHERE.encode(), self.CAUSE)
+        wait_until(lambda: told in nodes.primary.errors.read_bytes(), "the cause")
+        wait_until(nodes.primary.is_listening, "a primary that listens")
+        self.assertEqual((lines_with(nodes.primary.errors, b"no link to"), lines_with(nodes.primary.errors, b"nobody takes")), (1, 0))
+        self.assertTrue(nodes.primary.is_running())
+
+    def test_of_its_own(self):
+        """A node cannot listen there, which may pass: it ends so that whoever started it tries again."""
+        nodes = self.pair()
+        nodes.end()
+        for node in (nodes.primary, nodes.standby):
+            with self.case("node", role=node.role):
+                node.words[node.words.index("--listen") + 1] = self.NOWHERE
+                node.errors.unlink()
+                node.start()
+                self.assertEqual(node.wait(), 75)
+                self.assertIn(b"cannot listen at %s: %s\n" % (self.NOWHERE.encode(), self.CAUSE), node.errors.read_bytes())
+                self.assertEqual(node.errors.read_bytes().splitlines()[-1], b"cannot listen")
+
+
 class SlowStrangers(ServingCases):
     """A pair whose link a stranger has that is in no hurry."""
 

@@ -12,6 +12,7 @@ import common
 from common import CAUSE, run_program
 from old_images import OldWriter
 from plain_image import PRIMARY, STANDBY
+from plain_journal import file_of
 from plain_keyspace import Put
 from plain_writer import Writer
 from refused_calls import FOR_EVER, FaultyCases
@@ -143,6 +144,25 @@ class Mounted(Told):
                 f'cp --sparse=always {whole} p.img; head -c 600000 /dev/zero > filler 2> /dev/null; '
                 f'"$0" migrate --image p.img 2>&1; echo $?; cmp {whole} p.img && rm filler && "$0" migrate --image p.img 2>&1; echo $?')
         self.assertEqual(found, [f"p.img could not be written: {NO_ROOM.decode()}", "refusal 1: device fault", "1", "migrated to version 2, 494 entries", "0"])
+
+    def test_a_journal_on_a_full_disk(self):
+        """There is no room for one, and the image is as it was; of one with holes there is none to open it, or to take it away. Once there is room it is done."""
+        refused, no_room = ["refusal 1: device fault", "1"], NO_ROOM.decode()
+        # (the disk is larger than an image, and smaller than one with a journal)
+        full, free = "head -c 600000 /dev/zero > filler 2> /dev/null", "rm filler"
+        plain = image_of(STANDBY)
+        with tempfile.TemporaryDirectory(prefix="wbl-full-") as name:
+            whole = pathlib.Path(name, "whole.img")
+            whole.write_bytes(plain)
+            found = self.run_there(
+                f'cp {whole} s.img; {full}; "$0" journal --image s.img 2>&1; echo $?; cmp {whole} s.img && {free} && "$0" journal --image s.img 2>&1; echo $?')
+            self.assertEqual(found, [f"s.img could not be written: {no_room}", *refused, "has a journal", "0"])
+            whole.write_bytes(file_of(plain))
+            for words, done in [("settle", ["has no journal", "0"]), ("promote --old-primary-stopped", ["promoted to epoch 2", "s.img is a primary's now, at position 1, with 1 keys", "0"])]:
+                with self.case("holes", words=words):
+                    found = self.run_there(
+                        f'cp --sparse=always {whole} s.img; {full}; "$0" {words} --image s.img 2>&1; echo $?; cmp {whole} s.img && {free} && "$0" {words} --image s.img 2>&1; echo $?')
+                    self.assertEqual(found, [f"s.img could not be written: {no_room}", *refused, *done])
 
     def test_a_file_system_that_is_read_only(self):
         """Images are read there, and not served."""
