@@ -30,10 +30,7 @@ IS_SLOW = True
 
 LINES = 4_096
 SHAPE = Shape.of_image(LINES)
-# How many calls are answered while they are noted: a part has room for the records of some 60, and each replaces a version.
-CALLS, KEYS = 150, 7
-# How many of the files that cuts leave are opened by the program.
-OPENED = 12
+KEYS = 7
 COPIES, ROUNDS = 100, 6
 # (of kills with --long)
 MORE_ROUNDS = 100
@@ -65,6 +62,11 @@ def expected(count):
 class Cuts(PairCases):
     """One node is started so that its calls are noted, and its counters count."""
 
+    # How many calls are answered while they are noted: a part has room for the records of some 60, and each replaces a version.
+    CALLS = 150
+    # How many of the files that cuts leave are opened by the program.
+    OPENED = 12
+
     def setUp(self):
         super().setUp()
         folder = tempfile.TemporaryDirectory(prefix="wbl-journaled-")
@@ -72,6 +74,14 @@ class Cuts(PairCases):
         self.folder, self.loaded = pathlib.Path(folder.name), noted_calls.library(folder.name)
         if self.loaded is None:
             print(f"{self.id()}: skipped, since there is no gcc", flush=True)
+
+    def ask(self, client, number):
+        """The call of this number, of which each changes the position by one."""
+        self.assertEqual(client.ask("INCR", f"n{number % KEYS}"), integer(number // KEYS + 1))
+
+    def expected(self, count):
+        """The map after so many calls."""
+        return expected(count)
 
     def counted(self, role):
         """The bytes of a node's file before it was started, what it asked of it, and how much of that was noted when each call was answered."""
@@ -84,8 +94,8 @@ class Cuts(PairCases):
         nodes.wait()
         answered = []
         with nodes.client() as client:
-            for number in range(CALLS):
-                self.assertEqual(client.ask("INCR", f"n{number % KEYS}"), integer(number // KEYS + 1))
+            for number in range(self.CALLS):
+                self.ask(client, number)
                 answered.append(noting.log.read_bytes().count(b"\n"))
         nodes.end()
         self.assertGreaterEqual(generation_of(node.image.read_bytes()), 3)
@@ -111,15 +121,15 @@ class Cuts(PairCases):
         found, wrong, opened, draws = 0, [], [], random.Random(f"opened of the {role}")
         for least, left in self.files_left(role):
             record, held = read(left)
-            if not least <= record.position <= CALLS or held != expected(record.position):
+            if not least <= record.position <= self.CALLS or held != self.expected(record.position):
                 wrong.append((least, record.position, held))
             found += 1
             # (all at once would be half a gibibyte)
-            if len(opened) < OPENED:
+            if len(opened) < self.OPENED:
                 opened.append(left)
-            elif (place := draws.randrange(found)) < OPENED:
+            elif (place := draws.randrange(found)) < self.OPENED:
                 opened[place] = left
-        self.assertGreater(found, CALLS)
+        self.assertGreater(found, self.CALLS)
         self.assertEqual(wrong, [])
         for number, left in enumerate(opened):
             with self.case("opened", number=number):
@@ -151,6 +161,21 @@ class Cuts(PairCases):
 
     def test_cuts_of_the_standby(self):
         self.check("standby")
+
+
+class CutsOfLongValues(Cuts):
+    """The same of values for which no part has room: each is put in place between two generations, over lines that a value before it left."""
+
+    CALLS, OPENED = 8, 6
+
+    def value(self, number):
+        return b"%c" % (97 + number) * (64 * (SHAPE.part + 1))
+
+    def ask(self, client, number):
+        self.assertEqual(client.ask("SET", "large", self.value(number)), b"+OK\r\n")
+
+    def expected(self, count):
+        return {(b"large",): self.value(count - 1)} if count else {}
 
 
 class Copies(PairCases):

@@ -21,6 +21,7 @@ from plain_writer import Writer
 from test_images import LINES, PASSING, image_bytes, limited, refusal, told_of, words_of
 from test_journals import SHAPE, Journaled, behind, with_journal
 from test_losing import promote_words
+from test_migrating import migrate_words
 
 PROGRAMS = ["server"]
 
@@ -80,7 +81,9 @@ class Sizes(Journaled):
             program.chmod(0o700)
             data = with_journal(*behind(STANDBY)[1:])
             path.write_bytes(data)
-            for words in (["inspect", "--image", str(path)], promote_words(path), self.opening_words(path), ["format", "--image", str(path), "--lines", str(LINES), "--role", "primary"]):
+            for words in (["inspect", "--image", str(path)], ["status", "--image", str(path)], promote_words(path), migrate_words(path), self.opening_words(path),
+                          ["primary", "--image", str(path), "--listen", "127.0.0.1:0", "--link", "127.0.0.1:1"],
+                          ["format", "--image", str(path), "--lines", str(LINES), "--role", "primary"]):
                 with self.case("words", words=words[0]):
                     ran = subprocess.run([program, *words], capture_output=True, stdin=subprocess.DEVNULL, timeout=common.SECONDS, check=False)
                     self.assertEqual((ran.returncode, common.without_times(ran.stderr).splitlines()[-1]), (1, b"refusal 4: wrong size"))
