@@ -107,8 +107,8 @@ def former_release():
 class Copies(Journaled):
     """`bin/copy-image` of images that no node runs."""
 
-    def copied(self, *words):
-        ran = subprocess.run([common.ROOT / "bin" / "copy-image", *words], capture_output=True, text=True, timeout=common.SECONDS, check=False)
+    def copied(self, *words, **options):
+        ran = subprocess.run([common.ROOT / "bin" / "copy-image", *words], capture_output=True, text=True, timeout=common.SECONDS, check=False, **options)
         return ran.returncode, ran.stdout, ran.stderr
 
     def test_a_copy(self):
@@ -119,6 +119,20 @@ class Copies(Journaled):
             self.assert_bytes(copy.read_bytes(), path.read_bytes())
             self.assertEqual((copy.stat().st_mode & 0o777, sorted(it.name for it in folder.iterdir())), (0o600, ["copy.img", "s.img"]))
             self.assertEqual(self.copied(path, copy)[0], 1)
+
+    def test_no_room(self):
+        """Nothing of a copy is left, and the image is as it was."""
+        with self.folder() as folder:
+            path, copy, data = folder / "s.img", folder / "copy.img", with_journal(*behind(STANDBY)[1:])
+            path.write_bytes(data)
+            for size in (0, 64, LINE_BYTES * LINES, len(data) - 1):
+                with self.case("size", size=size):
+                    status, output, errors = self.copied(path, copy, preexec_fn=limited(size))
+                    self.assertEqual((status, output, errors.count("\n")), (1, "", 1), errors)
+                    self.assertTrue(errors.startswith(f"copy-image: {path} is not copied to {copy}: "), errors)
+                    self.assertEqual([it.name for it in folder.iterdir()], ["s.img"])
+            self.assert_bytes(path.read_bytes(), data)
+            self.assertEqual(self.copied(path, copy, preexec_fn=limited(len(data))), (0, "", ""))
 
     def test_none(self):
         """Status 1 and a line that says why, or 2 where the words are not given; no copy is there."""
