@@ -11,7 +11,8 @@ MOST_EVENTS = 16_777_216
 ABOVE_U64 = 2**64
 
 USAGE = b"""usage: wbl-sim [--lines N,N] [--list | --whole] [--map] [--images] < EVENTS
-       wbl-sim --explore SEED EVENTS
+       wbl-sim [--lines N,N] --trace < EVENTS
+       wbl-sim [--trace] --explore SEED EVENTS
 """
 
 FIRST_SET = [

@@ -1,7 +1,6 @@
 //! What a history is drawn of: acts, and the steps that they are made of.
 use crate::drawing::Drawing;
 use crate::drawn_requests::{alone, draw_command, draw_request};
-use crate::witness::Witness;
 use bytes::Bytes;
 use machine::{Cut, Event, Mark, Node};
 use std::alloc::AllocError;
@@ -109,12 +108,7 @@ const ACTS: [(u64, Act); 20] = [
 
 impl Drawing {
     /// The event of a step, whose numbers are drawn now.
-    pub fn event_of(
-        &mut self,
-        step: Step,
-        history: &History,
-        witness: &Witness,
-    ) -> Result<Event, AllocError> {
+    pub fn event_of(&mut self, step: Step, history: &History) -> Result<Event, AllocError> {
         let frames = history.frames.len() as u64;
         let acknowledgements = history.acknowledgements.len() as u64;
         Ok(match step {
@@ -140,7 +134,7 @@ impl Drawing {
             Step::Hold(connection) => Event::Hold(connection),
             Step::Read(connection, mark) => Event::Read(connection, mark),
             Step::Release(connection) => Event::Release(connection),
-            Step::Write(connection) => Event::Write(connection, self.bytes(connection, witness)),
+            Step::Write(connection) => Event::Write(connection, self.bytes(connection, history)?),
             Step::Leave(connection) => Event::Leave(connection),
             Step::FailFence(node) => Event::FailFence(node, self.up_to(MOST_FENCES)),
             Step::Crash(node, cut) => self.crash(node, cut)?,

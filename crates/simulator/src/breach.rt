@@ -1,21 +1,13 @@
 //! What of the promise does not hold.
 use thiserror::Error;
 
-/// What of the promise does not hold after an event.
+/// What of the promise does not hold after an event. What the calls are answered, and what the images hold, is no matter of it.
 #[derive(Clone, Copy, Debug, PartialEq, Eq, Error)]
 pub enum Breach {
     #[error("an event that is not enabled changed something")]
     Changed,
-    #[error("the list has other calls than it should have")]
+    #[error("the list was not cut where the image stands that serves")]
     List,
-    #[error("a call is not of the next request of its connection")]
-    Request,
-    #[error("a call is not answered as a plain Redis answers it")]
-    Reply,
-    #[error("the bytes released to a connection do not begin its replies")]
-    Released,
-    #[error("a released call is not in the list any more")]
-    Lost,
     #[error("a released call is not in the image of each node")]
     Uncovered,
     #[error("a device holds no whole image")]
@@ -24,8 +16,6 @@ pub enum Breach {
     Role,
     #[error("an image holds more than the list")]
     Ahead,
-    #[error("an image does not hold the keyspace of the list at its position")]
-    Keyspace,
     #[error("the device of a fenced primary changed")]
     Succeeded,
     #[error("the device of a node that has stopped changed")]

@@ -3,11 +3,17 @@ ghost use Rattle.world.specs.Pair.{HasWorld};
 
 use crate::breach::Breach;
 use crate::drawing::Drawing;
+use crate::error::SimulatorError;
 use crate::found::Found;
-use crate::restored::{Keeper, Restoring, see_restored};
+use crate::lookout::Lookout;
+use crate::options::Options;
+use crate::play::new_devices;
+use crate::restored::Restoring;
+use crate::schedule::MOST_EVENTS;
 use crate::script::Failure;
-use crate::shown::{ShowingPmem, Shown};
+use crate::shown::ShowingPmem;
 use crate::tally::Tally;
+use crate::teller::Teller;
 use crate::witness::Witness;
 use kv_types::Refusal;
 use machine::{Event, Node};
@@ -15,21 +21,16 @@ use mv_keyspace::MvKeyspace;
 use pmem::{Crashing, SimPmem};
 use std::alloc::{AllocError, Global};
 use std::hash::RandomState;
+use std::io::Write;
 use wbl_engine::WblEngine;
 use world::{History, Pair, Stepper};
 
-/// The lines of each device.
-const LINES: u64 = 4_096;
-
-/// The most events of a history.
-const MOST_EVENTS: u64 = 10_000;
-
-/// A history: which fence of a node is to fail, if one is that no event asks to, the image that is put back at its end, if one is, and the events.
+/// A history: which fences are to fail, but for those that an event asks to, the image that is put back at its end, if one is, and the events.
 #[derive(Drop)]
-pub struct Case {
-    pub failure: Option<Failure>,
+pub struct Case<'a> {
+    pub failures: &'a [Failure],
     pub restoring: Option<Restoring>,
-    pub events: Vec<Event>,
+    pub source: Source<'a>,
 }
 
 /// Where the events of a history come from.
@@ -41,10 +42,14 @@ pub enum Source<'a> {
 }
 
 impl Source<'_> {
-    /// The next event, or `None` where none is left.
-    fn next(&mut self, history: &History, witness: &Witness) -> Result<Option<Event>, AllocError> {
+    /// The next event, or `None` where none is left, after what happened so far, where this node has stopped, if one has.
+    fn next(
+        &mut self,
+        history: &History,
+        stopped: Option<Node>,
+    ) -> Result<Option<Event>, AllocError> {
         match self {
-            Source::Drawn(drawing) => drawing.next(history, witness),
+            Source::Drawn(drawing) => drawing.next(history, stopped),
             Source::Given(events) => {
                 let [first, rest @ ..] = *events else {
                     return Ok(None);
@@ -64,83 +69,66 @@ impl Source<'_> {
     }
 }
 
-/// Plays a history over a new pair, and looks at it after each event. The events that were reached go behind `events`.
-pub fn play_case(
+/// The device of each node, which shows its words.
+type Device = ShowingPmem<SimPmem>;
+
+/// Plays a history over a new pair, looks at it after each event, and tells of it. What was counted is added.
+pub fn play_case<W: Write>(
     alloc: Global,
-    failure: Option<Failure>,
-    restoring: Option<Restoring>,
-    source: &mut Source<'_>,
+    options: &Options,
+    case: Case<'_>,
+    teller: Teller<'_, W>,
     hash_builder: RandomState,
-    events: &mut Vec<Event>,
     tally: &mut Tally,
 ) -> Result<(), Found> {
-    let (first, shown_first) = new_device(alloc, failure, Node::Primary)?;
-    let (second, shown_second) = new_device(alloc, failure, Node::Standby)?;
-    let mut witness = Witness::new(alloc, shown_first, shown_second, failure.is_some())?;
-    match Pair::<Engine, MvKeyspace>::open(alloc, first, second, 0, hash_builder) {
+    let Case {
+        failures,
+        restoring,
+        source,
+    } = case;
+    let mut source = source;
+    let (primary, standby) = new_devices(alloc, options, failures)?;
+    let (first, shown_first) = ShowingPmem::new(alloc, primary)?;
+    let (second, shown_second) = ShowingPmem::new(alloc, standby)?;
+    let witness = Witness::new(alloc, shown_first, shown_second, !failures.is_empty());
+    let mut teller = teller;
+    teller.failures(failures)?;
+    let mut lookout = Lookout::new(witness, restoring, teller);
+    match Pair::<WblEngine<Device>, MvKeyspace>::open(alloc, first, second, 0, hash_builder) {
         Ok((pair, history)) => {
             let mut pair = pair;
             let mut history = history;
-            let mut keeper = Keeper::new(restoring);
-            let ended = play_through(
-                &mut pair,
-                &mut history,
-                source,
-                &mut witness,
-                &mut keeper,
-                events,
-            );
+            let ended = play_through(&mut pair, &mut history, &mut source, &mut lookout);
             let devices = pair.into_devices();
-            let left = see_end(ended, devices, source, &history, &mut witness, events);
-            let left = see_restored(alloc, left, keeper, &mut witness, hash_builder);
-            tally.add(witness.tally);
+            let left = see_end(ended, devices, &mut source, &history, &mut lookout);
+            let left = lookout.see_restored(alloc, left, hash_builder);
+            tally.add(lookout.tally());
             left
         }
         Err((refusal, _first, _second)) => Err(found_in(refusal)),
     }
 }
 
-/// The engine of each node.
-type Engine = WblEngine<ShowingPmem<SimPmem>>;
-
-/// A new device of this node, and where it shows its words.
-fn new_device(
-    alloc: Global,
-    failure: Option<Failure>,
-    node: Node,
-) -> Result<(ShowingPmem<SimPmem>, Shown), AllocError> {
-    let mut device = SimPmem::new(alloc, LINES)?;
-    if let Some(failure) = failure
-        && failure.node == node
-    {
-        device.fail_at(failure.fence);
-    }
-    ShowingPmem::new(alloc, device)
-}
-
 /// Lets the events happen, and looks at the pair after each. Returns whether a fence that failed ended the run.
-fn play_through<S: Stepper>(
+fn play_through<S: Stepper, W: Write>(
     stepper: &mut S,
     history: &mut History,
     source: &mut Source<'_>,
-    witness: &mut Witness,
-    keeper: &mut Keeper,
-    events: &mut Vec<Event>,
+    lookout: &mut Lookout<'_, W>,
 ) -> Result<bool, Found>
     requires world { HasWorld (S.parts stepper.old history.old) }
 {
-    witness.begin()?;
+    lookout.begin()?;
     for number in 0..MOST_EVENTS {
-        keeper.see(number, witness)?;
-        let Some(event) = source.next(history, witness)? else {
+        lookout.keep(number)?;
+        let Some(event) = source.next(history, lookout.stopped())? else {
             return Ok(false);
         };
+        lookout.tell(&event)?;
         match stepper.step(history, &event) {
-            Ok(did) => see_event(witness, event, did, history, events)?,
+            Ok(did) => lookout.see(&event, did, history)?,
             Err(refusal) => {
-                let seen = see_refusal(witness, &event, refusal);
-                events.push(event)?;
-                seen?;
+                lookout.see_refusal(&event, refusal)?;
                 return Ok(true);
             }
         }
@@ -148,56 +136,33 @@ fn play_through<S: Stepper>(
     Ok(false)
 }
 
-/// Looks at the pair after an event, which goes behind the others.
-fn see_event(
-    witness: &mut Witness,
-    event: Event,
-    did: bool,
-    history: &History,
-    events: &mut Vec<Event>,
-) -> Result<(), Found> {
-    let seen = witness.see(&event, did, history);
-    events.push(event)?;
-    seen
-}
-
-/// Looks at the pair where an event ended the run with this refusal.
-fn see_refusal(witness: &mut Witness, event: &Event, refusal: Refusal) -> Result<(), Found> {
-    match refusal {
-        Refusal::Fault => witness.see_fault(event),
-        _ => Err(found_in(refusal)),
-    }
-}
-
 /// Looks at what is left once a run is over: where a fence ended it, after crashes of the devices. Returns whether it ended well.
-fn see_end(
+fn see_end<W: Write>(
     ended: Result<bool, Found>,
-    devices: (ShowingPmem<SimPmem>, ShowingPmem<SimPmem>),
+    devices: (Device, Device),
     source: &mut Source<'_>,
     history: &History,
-    witness: &mut Witness,
-    events: &mut Vec<Event>,
+    lookout: &mut Lookout<'_, W>,
 ) -> Result<bool, Found> {
     if ended? {
         source.end()?;
-        crash_devices(devices, source, history, witness, events)?;
-        witness.see_left()?;
+        crash_devices(devices, source, history, lookout)?;
+        lookout.see_left()?;
         return Ok(false);
     }
     Ok(true)
 }
 
 /// Crashes the devices as the events say that are left.
-fn crash_devices(
-    devices: (ShowingPmem<SimPmem>, ShowingPmem<SimPmem>),
+fn crash_devices<W: Write>(
+    devices: (Device, Device),
     source: &mut Source<'_>,
     history: &History,
-    witness: &mut Witness,
-    events: &mut Vec<Event>,
+    lookout: &mut Lookout<'_, W>,
 ) -> Result<(), Found> {
     let (mut first, mut second) = devices;
     for _event in 0..MOST_EVENTS {
-        let Some(event) = source.next(history, witness)? else {
+        let Some(event) = source.next(history, None)? else {
             return Ok(());
         };
         match &event {
@@ -205,15 +170,16 @@ fn crash_devices(
             Event::Crash(Node::Standby, _, _, picks) => second.crash(picks.as_slice()),
             _ => {}
         }
-        events.push(event)?;
+        lookout.tell(&event)?;
+        lookout.count_event();
     }
     Ok(())
 }
 
 /// What it means that a run ended so.
-fn found_in(refusal: Refusal) -> Found {
+pub fn found_in(refusal: Refusal) -> Found {
     match refusal {
-        Refusal::Memory => Found::Memory,
+        Refusal::Memory => Found::from(SimulatorError::Memory),
         _ => Found::Breach(Breach::Ended),
     }
 }

@@ -1,7 +1,7 @@
 //! Histories that are drawn.
 use crate::acts::Step;
 use crate::dice::Dice;
-use crate::witness::Witness;
+use crate::replies::unreleased;
 use machine::{Cut, Event, Node};
 use std::alloc::{AllocError, Global};
 use std::collections::VecDeque;
@@ -65,16 +65,16 @@ impl Drawing {
         self.left
     }
 
-    /// The next event, or `None` where the history is over.
+    /// The next event, or `None` where the history is over. This node has stopped, if one has.
     pub fn next(
         &mut self,
         history: &History,
-        witness: &Witness,
+        stopped: Option<Node>,
     ) -> Result<Option<Event>, AllocError> {
         self.entered = history.transcript.released.len() as u64;
-        self.come_on(witness)?;
+        self.come_on(stopped)?;
         match self.steps.pop_front() {
-            Some(step) => Ok(Some(self.event_of(step, history, witness)?)),
+            Some(step) => Ok(Some(self.event_of(step, history)?)),
             None => Ok(None),
         }
     }
@@ -88,7 +88,7 @@ impl Drawing {
     }
 
     /// Draws what comes next, where nothing is left of what was drawn. A node that has stopped crashes soon.
-    fn come_on(&mut self, witness: &Witness) -> Result<(), AllocError> {
+    fn come_on(&mut self, stopped: Option<Node>) -> Result<(), AllocError> {
         if self.is_ending {
             return Ok(());
         }
@@ -103,7 +103,7 @@ impl Drawing {
             self.failover = 0;
             return self.fail_over();
         }
-        if let Some(node) = witness.stopped()
+        if let Some(node) = stopped
             && self.dice.is_one_of(ACTS_WHILE_STOPPED)
         {
             return self.come_back(node, Cut::Between);
@@ -141,11 +141,11 @@ impl Drawing {
     }
 
     /// How many bytes are written to a connection: mostly all that there may be.
-    pub fn bytes(&mut self, connection: u64, witness: &Witness) -> u64 {
+    pub fn bytes(&mut self, connection: u64, history: &History) -> Result<u64, AllocError> {
         if self.dice.is_one_of(3) {
-            self.dice.one_of(&REPLY_BYTES).copied().unwrap_or(1)
+            Ok(self.dice.one_of(&REPLY_BYTES).copied().unwrap_or(1))
         } else {
-            witness.unreleased(connection) as u64
+            Ok(unreleased(self.alloc, history, connection)? as u64)
         }
     }
 

@@ -6,7 +6,8 @@ use std::io::ErrorKind;
 use std::{fmt, io};
 
 const USAGE: &str = "usage: wbl-sim [--lines N,N] [--list | --whole] [--map] [--images] < EVENTS
-       wbl-sim --explore SEED EVENTS";
+       wbl-sim [--lines N,N] --trace < EVENTS
+       wbl-sim [--trace] --explore SEED EVENTS";
 
 /// The exit status if the command line or a line of the events is not understood.
 const MISUSED: u8 = 2;
@@ -29,7 +30,7 @@ pub enum SimulatorError {
     Memory,
     /// The report could not be written, or not all of it.
     Write(io::Error),
-    /// A history that was drawn breaks the promise. It was printed.
+    /// A history breaks the promise. It was printed.
     Broken,
 }
 

@@ -2,14 +2,12 @@
 ghost use Rattle.std.specs.Prelude.{◌≡◌, IfOk};
 ghost use Rattle.hex.specs.Hex.{decode_of};
 
-use crate::case::Case;
 use crate::cause::{Cause, LineError};
 use crate::crash_words::{name_of_cut, read_crash};
 use crate::error::SimulatorError;
 use crate::line_words::LineWords;
 use crate::node::name_of;
 use crate::quoted::Quoted;
-use crate::restored::Restoring;
 use crate::spelling::spelled;
 use bytes::Bytes;
 use hex::FromHexError;
@@ -140,38 +138,12 @@ fn read_hex(alloc: Global, digits: &[u8]) -> Result<Bytes, LineError>
     }
 }
 
-/// Prints a history so that it is read as it is.
-pub fn write_case<W: Write>(alloc: Global, out: &mut W, case: &Case) -> Result<(), SimulatorError> {
-    if let Some(failure) = case.failure {
-        let node = name_of(failure.node);
-        let fence = failure.fence;
-        writeln!(out, "fail {node} {fence}")?;
-    }
-    for (place, event) in case.events.iter().enumerate() {
-        write_keep(out, case.restoring, place as u64)?;
-        write_event(alloc, out, event)?;
-    }
-    write_keep(out, case.restoring, case.events.len() as u64)?;
-    if let Some(restoring) = case.restoring {
-        let node = name_of(restoring.node);
-        writeln!(out, "restore {node}")?;
-    }
-    Ok(())
-}
-
-/// That an image is kept, if it is behind so many events.
-fn write_keep<W: Write>(out: &mut W, restoring: Option<Restoring>, events: u64) -> io::Result<()> {
-    match restoring {
-        Some(restoring) if restoring.after == events => {
-            let node = name_of(restoring.node);
-            writeln!(out, "keep {node}")
-        }
-        _ => Ok(()),
-    }
-}
-
-/// Prints an event, in a line. Bytes stand in hex digits, and before them, in a comment, as they are.
-fn write_event<W: Write>(alloc: Global, out: &mut W, event: &Event) -> Result<(), SimulatorError> {
+/// Prints an event, in a line, so that it is read as it is. Bytes stand in hex digits, and before them, in a comment, as they are.
+pub fn write_words_of<W: Write>(
+    alloc: Global,
+    out: &mut W,
+    event: &Event,
+) -> Result<(), SimulatorError> {
     match event {
         Event::Feed(connection, piece) => write_piece(alloc, out, *connection, piece),
         Event::Crash(node, cut, after, picks) => {

@@ -1,19 +1,19 @@
-//! Histories that are drawn, and looked at after each event.
+//! Histories that are looked at after each event: those that are drawn, or one that is given.
 use crate::breach::Breach;
 use crate::case::{Case, Source, play_case};
 use crate::dice::Dice;
 use crate::drawing::Drawing;
 use crate::error::SimulatorError;
-use crate::event_text::write_case;
 use crate::found::Found;
-use crate::options::Exploration;
+use crate::options::{Exploration, Options};
 use crate::restored::Restoring;
-use crate::script::Failure;
-use crate::shortening::shorten;
+use crate::script::{Failure, Script};
 use crate::tally::Tally;
+use crate::teller::Teller;
 use machine::Node;
 use std::alloc::{AllocError, Global};
 use std::hash::RandomState;
+use std::io;
 use std::io::Write;
 
 /// Formatting makes as many fences.
@@ -22,36 +22,91 @@ const FORMATTING_FENCES: u64 = 3;
 /// Which fence after those of formatting is to fail, at most.
 const MOST_FENCES: u64 = 30;
 
-/// Plays histories that are drawn until so many events happened, and prints how much that was. Where one breaks the promise it is printed instead, as short
-/// as it was found to be, and the error is `Broken`.
+/// A history that is drawn.
+#[derive(Clone, Copy)]
+struct Drawn {
+    failure: Option<Failure>,
+    restoring: Option<Restoring>,
+    /// Of its events.
+    seed: u64,
+}
+
+/// Plays histories that are drawn until so many events happened, tells of each if that is asked for, and prints how much that was. Where one breaks the
+/// promise it is told in any case, and then what it breaks, and the error is `Broken`.
 pub fn explore<W: Write>(
     alloc: Global,
     out: &mut W,
+    options: &Options,
     exploration: Exploration,
     hash_builder: RandomState,
 ) -> Result<(), SimulatorError> {
-    let mut dice = Dice::new(exploration.seed);
+    let seed = exploration.seed;
+    let mut dice = Dice::new(seed);
     // (what is put back is drawn apart, so that the histories of a seed are what they are without it)
-    let mut restores = Dice::new(!exploration.seed);
+    let mut restores = Dice::new(!seed);
     let mut tally = Tally::new();
-    for _history in 0..exploration.events {
+    for number in 0..exploration.events {
         if exploration.events <= tally.events {
             break;
         }
-        let mut case = Case {
-            failure: draw_failure(&mut dice),
-            restoring: None,
-            events: Vec::new(alloc),
+        let drawn = draw(alloc, &mut dice, &mut restores)?;
+        let breach = if options.trace {
+            writeln!(out, "# history {number}")?;
+            play_drawn(alloc, out, options, drawn, &mut tally, hash_builder)?
+        } else {
+            play_drawn(
+                alloc,
+                &mut io::sink(),
+                options,
+                drawn,
+                &mut tally,
+                hash_builder,
+            )?
         };
-        let drawing = Drawing::new(alloc, dice.number())?;
-        case.restoring = draw_restoring(&mut restores, drawing.left());
-        if let Some(breach) = play_one(alloc, drawing, &mut case, &mut tally, hash_builder)? {
-            return tell_breach(alloc, out, exploration, tally, case, breach, hash_builder);
+        if let Some(breach) = breach {
+            return tell_drawn(alloc, out, options, drawn, breach, hash_builder);
         }
     }
-    let seed = exploration.seed;
     writeln!(out, "explored: seed {seed}, {tally}")?;
     Ok(())
+}
+
+/// Plays a history that is given, and tells of it. Where it breaks the promise, it is told what it breaks, and the error is `Broken`.
+pub fn look<W: Write>(
+    alloc: Global,
+    out: &mut W,
+    options: &Options,
+    script: &Script,
+    hash_builder: RandomState,
+) -> Result<(), SimulatorError> {
+    let restoring = match script.restore {
+        Some(restore) => Some(Restoring {
+            node: restore.kept.node,
+            after: restore.kept.after as u64,
+        }),
+        None => None,
+    };
+    let case = Case {
+        failures: script.failures.as_slice(),
+        restoring,
+        source: Source::Given(script.schedule.events()),
+    };
+    let mut tally = Tally::new();
+    match play_through(alloc, out, options, case, &mut tally, hash_builder)? {
+        Some(breach) => tell_breach(out, breach),
+        None => Ok(()),
+    }
+}
+
+fn draw(alloc: Global, dice: &mut Dice, restores: &mut Dice) -> Result<Drawn, AllocError> {
+    let failure = draw_failure(dice);
+    let seed = dice.number();
+    let drawing = Drawing::new(alloc, seed)?;
+    Ok(Drawn {
+        failure,
+        restoring: draw_restoring(restores, drawing.left()),
+        seed,
+    })
 }
 
 /// In one of four histories a fence fails.
@@ -76,48 +131,62 @@ fn draw_restoring(dice: &mut Dice, events: u64) -> Option<Restoring> {
     Some(Restoring { node, after })
 }
 
-/// Plays one history that is drawn. Returns what it breaks.
-fn play_one(
+/// Plays a history that is drawn. Returns what it breaks.
+fn play_drawn<W: Write>(
     alloc: Global,
-    drawing: Drawing,
-    case: &mut Case,
+    out: &mut W,
+    options: &Options,
+    drawn: Drawn,
     tally: &mut Tally,
     hash_builder: RandomState,
-) -> Result<Option<Breach>, AllocError> {
-    let mut source = Source::Drawn(drawing);
-    let found = play_case(
-        alloc,
-        case.failure,
-        case.restoring,
-        &mut source,
-        hash_builder,
-        &mut case.events,
-        tally,
-    );
-    tally.count_history(case.events.len());
-    match found {
+) -> Result<Option<Breach>, SimulatorError> {
+    let mut failures = Vec::new(alloc);
+    if let Some(failure) = drawn.failure {
+        failures.push(failure)?;
+    }
+    let case = Case {
+        failures: failures.as_slice(),
+        restoring: drawn.restoring,
+        source: Source::Drawn(Drawing::new(alloc, drawn.seed)?),
+    };
+    play_through(alloc, out, options, case, tally, hash_builder)
+}
+
+/// Plays a history. Returns what it breaks.
+fn play_through<W: Write>(
+    alloc: Global,
+    out: &mut W,
+    options: &Options,
+    case: Case<'_>,
+    tally: &mut Tally,
+    hash_builder: RandomState,
+) -> Result<Option<Breach>, SimulatorError> {
+    let teller = Teller::new(alloc, out);
+    match play_case(alloc, options, case, teller, hash_builder, tally) {
         Ok(()) => Ok(None),
         Err(Found::Breach(breach)) => Ok(Some(breach)),
-        Err(Found::Memory) => Err(AllocError),
+        Err(Found::Failed(error)) => Err(error),
     }
 }
 
-/// Shortens a history that breaks the promise, and prints it.
-fn tell_breach<W: Write>(
+/// Tells what a history breaks that was drawn, and the history, by playing it once more, if it was not told while it was played.
+fn tell_drawn<W: Write>(
     alloc: Global,
     out: &mut W,
-    exploration: Exploration,
-    tally: Tally,
-    case: Case,
+    options: &Options,
+    drawn: Drawn,
     breach: Breach,
     hash_builder: RandomState,
 ) -> Result<(), SimulatorError> {
-    let mut case = case;
-    shorten(alloc, &mut case, breach, hash_builder)?;
-    let seed = exploration.seed;
+    if !options.trace {
+        let mut again = Tally::new();
+        let _ = play_drawn(alloc, out, options, drawn, &mut again, hash_builder)?;
+    }
+    tell_breach(out, breach)
+}
+
+/// Tells what the history breaks that was told last.
+fn tell_breach<W: Write>(out: &mut W, breach: Breach) -> Result<(), SimulatorError> {
     writeln!(out, "# broken: {breach}")?;
-    writeln!(out, "# explored: seed {seed}, {tally}")?;
-    write_case(alloc, out, &case)?;
-    out.flush()?;
     Err(SimulatorError::Broken)
 }

@@ -1,12 +1,13 @@
 //! What was found while a history was looked at.
 use crate::breach::Breach;
+use crate::error::SimulatorError;
 use std::alloc::{AllocError, AllocFailed};
 
-/// What was found, or that memory was refused.
-#[derive(Clone, Copy, Debug, PartialEq, Eq)]
+/// What was found, or why nothing more was looked at.
+#[derive(Debug, Drop)]
 pub enum Found {
     Breach(Breach),
-    Memory,
+    Failed(SimulatorError),
 }
 
 impl From<Breach> for Found {
@@ -15,14 +16,20 @@ impl From<Breach> for Found {
     }
 }
 
+impl From<SimulatorError> for Found {
+    fn from(error: SimulatorError) -> Found {
+        Found::Failed(error)
+    }
+}
+
 impl From<AllocError> for Found {
     fn from(_e: AllocError) -> Found {
-        Found::Memory
+        Found::Failed(SimulatorError::Memory)
     }
 }
 
 impl<T: Drop> From<AllocFailed<T>> for Found {
     fn from(_e: AllocFailed<T>) -> Found {
-        Found::Memory
+        Found::Failed(SimulatorError::Memory)
     }
 }

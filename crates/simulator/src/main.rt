@@ -5,7 +5,6 @@ mod acts;
 mod breach;
 mod case;
 mod cause;
-mod client;
 mod crash_words;
 mod dice;
 mod drawing;
@@ -16,31 +15,29 @@ mod explore;
 mod found;
 mod image;
 mod line_words;
+mod lookout;
 mod node;
 mod node_report;
 mod number;
 mod options;
-mod plain_commands;
-mod plain_records;
-mod plain_redis;
-mod plain_replies;
 mod play;
 mod quoted;
+mod replies;
 mod report;
 mod restored;
 mod restoring;
 mod schedule;
 mod script;
-mod shortening;
 mod shown;
 mod sight;
 mod spelling;
 mod tally;
+mod teller;
 mod wire_report;
 mod witness;
 
 use crate::error::SimulatorError;
-use crate::explore::explore;
+use crate::explore::{explore, look};
 use crate::options::read_options;
 use crate::play::play;
 use crate::report::report;
@@ -79,18 +76,22 @@ fn run(rt: &HostRuntime) -> Result<(), SimulatorError> {
         return print_version(&mut rt.stdout());
     }
     let hash_builder = RandomState::new(rt).map_err(SimulatorError::Random)?;
+    let mut out = BufWriter::new(alloc, rt.stdout())?;
     if let Some(exploration) = options.explore {
-        let mut out = BufWriter::new(alloc, rt.stdout())?;
-        explore(alloc, &mut out, exploration, hash_builder)?;
+        let explored = explore(alloc, &mut out, &options, exploration, hash_builder);
         out.flush()?;
-        return Ok(());
+        return explored;
     }
     let mut text = Vec::new(alloc);
     rt.stdin()
         .read_to_end(&mut text)
         .map_err(SimulatorError::Read)?;
     let script = read_script(alloc, &text)?;
-    let mut out = BufWriter::new(alloc, rt.stdout())?;
+    if options.trace {
+        let looked = look(alloc, &mut out, &options, &script, hash_builder);
+        out.flush()?;
+        return looked;
+    }
     let played = play(alloc, &mut out, &options, &script, hash_builder)?;
     let reported = report(alloc, &mut out, &options, script.schedule.lines(), &played);
     drop(played);

@@ -6,7 +6,7 @@ use crate::options::Options;
 use crate::quoted::Quoted;
 use kv_types::RecordId;
 use machine::Node;
-use model::Role;
+use model::{ImageContents, Record, Role};
 use pmem::SimPmem;
 use std::alloc::{AllocError, Global};
 use std::io;
@@ -46,14 +46,19 @@ fn read_nodes(
 
 fn write_positions<W: Write>(out: &mut W, nodes: &[NodeImage]) -> io::Result<()> {
     for (node, image) in nodes {
-        write_position(out, node, image)?;
+        match &image.contents {
+            Some(contents) => write_position(out, node, &contents.record)?,
+            None => writeln!(out, "{node}: no whole image")?,
+        }
     }
     Ok(())
 }
 
 fn write_maps<W: Write>(out: &mut W, nodes: &[NodeImage]) -> io::Result<()> {
     for (node, image) in nodes {
-        write_records(out, node, image)?;
+        if let Some(contents) = &image.contents {
+            write_records(out, node, contents)?;
+        }
     }
     Ok(())
 }
@@ -65,33 +70,31 @@ fn write_images<W: Write>(out: &mut W, nodes: &[NodeImage]) -> io::Result<()> {
     Ok(())
 }
 
-/// The current record of an image.
-fn write_position<W: Write>(out: &mut W, node: &str, image: &DeviceImage) -> io::Result<()> {
-    let Some(contents) = &image.contents else {
-        return writeln!(out, "{node}: no whole image");
-    };
-    let position = contents.record.position;
-    let number = contents.record.number;
-    let cp = contents.record.cp;
-    let cd = contents.record.cd;
-    let epoch = contents.record.epoch;
-    let role = match contents.record.role {
+/// The current record of a node's image.
+pub fn write_position<W: Write>(out: &mut W, node: &str, record: &Record) -> io::Result<()> {
+    let position = record.position;
+    let number = record.number;
+    let cp = record.cp;
+    let cd = record.cd;
+    let epoch = record.epoch;
+    let role = match record.role {
         Role::Primary => "primary",
         Role::Standby => "standby",
         Role::Newcomer => "newcomer",
     };
-    let gaps = contents.record.gaps.len();
+    let gaps = record.gaps.len();
     writeln!(
         out,
         "{node}: position {position}, record {number}, cp {cp}, cd {cd}, epoch {epoch}, role {role}, gaps {gaps}"
     )
 }
 
-/// The records of an image, in their order.
-fn write_records<W: Write>(out: &mut W, node: &str, image: &DeviceImage) -> io::Result<()> {
-    let Some(contents) = &image.contents else {
-        return Ok(());
-    };
+/// The records of a node's image, in their order.
+pub fn write_records<W: Write>(
+    out: &mut W,
+    node: &str,
+    contents: &ImageContents,
+) -> io::Result<()> {
     for (id, value) in contents.keyspace.records() {
         let key = Quoted(id.key().as_slice());
         let value = Quoted(value.as_slice());

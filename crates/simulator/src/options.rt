@@ -23,6 +23,8 @@ pub struct Options {
     pub map: bool,
     /// Whether the words of each image are printed.
     pub images: bool,
+    /// Whether the nodes are looked at after each event, and what is seen is printed.
+    pub trace: bool,
     /// Whether it is printed which program this is, and nothing is played.
     pub version: bool,
     /// Whether histories are drawn, and how many.
@@ -56,6 +58,7 @@ pub fn read_options(rt: &(impl Env + Alloc)) -> Result<Options, SimulatorError> 
         whole: false,
         map: false,
         images: false,
+        trace: false,
         version: false,
         explore: None,
     };
@@ -118,6 +121,7 @@ fn take_switch(options: &mut Options, word: &str) -> Result<(), SimulatorError> 
         "--whole" => options.whole = true,
         "--map" => options.map = true,
         "--images" => options.images = true,
+        "--trace" => options.trace = true,
         "--version" | "-V" => options.version = true,
         _ => return Err(SimulatorError::Usage),
     }

@@ -120,7 +120,7 @@ fn put_back<W: Write>(
 }
 
 /// The primary's device and the standby's, which fail as told.
-fn new_devices(
+pub fn new_devices(
     alloc: Global,
     options: &Options,
     failures: &[Failure],

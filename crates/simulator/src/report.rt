@@ -56,23 +56,39 @@ pub fn write_kept<'a, W: Write>(
 
 fn write_calls<W: Write>(alloc: Global, out: &mut W, calls: &[Call]) -> Result<(), SimulatorError> {
     for (number, call) in calls.iter().enumerate() {
-        let connection = call.connection;
-        write!(out, "call {number}: connection {connection},")?;
-        write_item(out, &call.item)?;
-        let text = text_of(alloc, &call.reply)?;
-        let reply = Quoted(text.as_slice());
-        writeln!(out, " -> {reply}")?;
+        write_call(alloc, out, number, call)?;
     }
+    Ok(())
+}
+
+/// The call of this number in the list.
+pub fn write_call<W: Write>(
+    alloc: Global,
+    out: &mut W,
+    number: usize,
+    call: &Call,
+) -> Result<(), SimulatorError> {
+    let connection = call.connection;
+    write!(out, "call {number}: connection {connection},")?;
+    write_item(out, &call.item)?;
+    let text = text_of(alloc, &call.reply)?;
+    let reply = Quoted(text.as_slice());
+    writeln!(out, " -> {reply}")?;
     Ok(())
 }
 
 /// The bytes that were released to each connection.
 fn write_released<W: Write>(out: &mut W, released: &[Vec<u8>]) -> io::Result<()> {
     for (number, bytes) in released.iter().enumerate() {
-        let quoted = Quoted(bytes.as_slice());
-        writeln!(out, "connection {number}: released {quoted}")?;
+        write_bytes(out, number, bytes.as_slice())?;
     }
     Ok(())
+}
+
+/// Bytes that were released to the connection of this number.
+pub fn write_bytes<W: Write>(out: &mut W, number: usize, bytes: &[u8]) -> io::Result<()> {
+    let quoted = Quoted(bytes);
+    writeln!(out, "connection {number}: released {quoted}")
 }
 
 fn write_item<W: Write>(out: &mut W, item: &Item) -> io::Result<()> {
@@ -89,7 +105,7 @@ fn write_item<W: Write>(out: &mut W, item: &Item) -> io::Result<()> {
 }
 
 /// The bytes of a reply.
-fn text_of(alloc: Global, reply: &Reply) -> Result<Vec<u8>, AllocError> {
+pub fn text_of(alloc: Global, reply: &Reply) -> Result<Vec<u8>, AllocError> {
     let mut text = Vec::new(alloc);
     write_reply(reply, &mut text)?;
     Ok(text)

@@ -2,12 +2,14 @@
 use crate::breach::Breach;
 use crate::found::Found;
 use crate::restoring::{Outcome, Restored, start_again};
+use crate::teller::Teller;
 use crate::witness::Witness;
 use kv_types::{RecordId, Refusal, Value};
 use machine::Node;
 use model::{ImageContents, read_image};
 use std::alloc::{AllocError, Global};
 use std::hash::RandomState;
+use std::io::Write;
 
 /// The image of this node, kept behind so many events, is put back at the end.
 #[derive(Clone, Copy, Debug, PartialEq, Eq)]
@@ -16,22 +18,13 @@ pub struct Restoring {
     pub after: u64,
 }
 
-impl Restoring {
-    /// The same where `size` events from `start` on are left out.
-    pub fn without(self, start: usize, size: usize) -> Restoring {
-        let before = self.after.saturating_sub(start as u64).min(size as u64);
-        Restoring {
-            node: self.node,
-            after: self.after.saturating_sub(before),
-        }
-    }
-}
-
 /// Keeps the image that is put back at the end of a history.
 #[derive(Drop)]
 pub struct Keeper {
     restoring: Option<Restoring>,
     kept: Option<Vec<u64>>,
+    /// Whether the history came to where the image was to be kept.
+    is_past: bool,
 }
 
 impl Keeper {
@@ -39,17 +32,30 @@ impl Keeper {
         Keeper {
             restoring,
             kept: None,
+            is_past: false,
         }
     }
 
-    /// So many events happened. Where the image is to be kept now, it is, unless its node has stopped: what a crash leaves then need not be it.
-    pub fn see(&mut self, events: u64, witness: &Witness) -> Result<(), AllocError> {
-        if let Some(restoring) = self.restoring
-            && restoring.after == events
-        {
-            self.kept = witness.image(restoring.node)?;
+    /// So many events happened. Where the image is to be kept now, it is, unless its node has stopped: what a crash leaves then need not be it. Returns the node
+    /// of which it is.
+    pub fn see(&mut self, events: u64, witness: &Witness) -> Result<Option<Node>, AllocError> {
+        let Some(restoring) = self.restoring else {
+            return Ok(None);
+        };
+        if restoring.after != events {
+            return Ok(None);
         }
-        Ok(())
+        self.is_past = true;
+        self.kept = witness.image(restoring.node)?;
+        Ok(Some(restoring.node))
+    }
+
+    /// The node whose image is put back, if it was to be kept before.
+    pub fn node(&self) -> Option<Node> {
+        match self.restoring {
+            Some(restoring) if self.is_past => Some(restoring.node),
+            _ => None,
+        }
     }
 
     /// The images of the primary and of the standby at the end, one of which was kept; none where nothing is put back. An image from before its node was
@@ -67,16 +73,13 @@ impl Keeper {
 }
 
 /// Puts the image back that was kept of a history that ended well, and looks at what came of it.
-pub fn see_restored(
+pub fn see_restored<W: Write>(
     alloc: Global,
-    ended_well: Result<bool, Found>,
     keeper: Keeper,
     witness: &mut Witness,
+    teller: &mut Teller<'_, W>,
     hash_builder: RandomState,
 ) -> Result<(), Found> {
-    if !ended_well? {
-        return Ok(());
-    }
     let Some((primary, standby)) = keeper.images(witness)? else {
         return Ok(());
     };
@@ -88,6 +91,9 @@ pub fn see_restored(
     } = start_again(alloc, primary.as_slice(), standby.as_slice(), hash_builder)?;
     let after = Images::read(alloc, primary.as_slice(), standby.as_slice())?;
     witness.tally.count_restore(outcome.is_ok());
+    teller.restored(outcome)?;
+    teller.image(Node::Primary, &after.primary)?;
+    teller.image(Node::Standby, &after.standby)?;
     check(outcome, &before, &after, witness)?;
     Ok(())
 }
@@ -155,8 +161,8 @@ fn check_refused(
 
 /// The primary holds all that was released, and the standby what the primary holds.
 fn check_taken(after: &Images, witness: &Witness) -> Result<(), Breach> {
-    witness.check_serving(&after.primary)?;
     let (own, other) = (&after.primary.record, &after.standby.record);
+    witness.check_serving(own.position)?;
     let is_level = own.position == other.position && own.epoch == other.epoch;
     if is_level && holds_same(&after.primary, &after.standby) {
         Ok(())

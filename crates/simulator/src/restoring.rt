@@ -240,11 +240,17 @@ fn hand_over(
 
 /// Prints what came of the link that the restore of this line led to.
 pub fn write_outcome<W: Write>(out: &mut W, line: u64, outcome: Outcome) -> io::Result<()> {
+    write!(out, "restore, line {line}: ")?;
+    write_link(out, outcome)
+}
+
+/// What came of a link.
+pub fn write_link<W: Write>(out: &mut W, outcome: Outcome) -> io::Result<()> {
     match outcome {
-        Ok(position) => writeln!(out, "restore, line {line}: taken from position {position}"),
+        Ok(position) => writeln!(out, "taken from position {position}"),
         Err(refused) => {
             let node = name_of(refused.node);
-            write!(out, "restore, line {line}: refused by the {node}: ")?;
+            write!(out, "refused by the {node}: ")?;
             write_refusal(out, refused.refusal)
         }
     }

@@ -7,7 +7,7 @@ use machine::Event;
 use std::alloc::{AllocError, Global};
 
 /// The most events that are played.
-const MOST_EVENTS: u64 = 16_777_216;
+pub const MOST_EVENTS: u64 = 16_777_216;
 
 /// Events to play, one after another, each with the number of its line.
 #[derive(Drop)]

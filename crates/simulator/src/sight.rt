@@ -1,10 +1,8 @@
 //! What the devices of a pair show.
 use crate::breach::Breach;
 use crate::found::Found;
-use crate::plain_records::PlainRecords;
 use crate::restoring::copied;
 use crate::shown::Shown;
-use kv_types::{RecordId, Value};
 use machine::Node;
 use model::{FIRST_EPOCH, ImageContents, Record, Role, read_image};
 use std::alloc::{AllocError, Global};
@@ -54,6 +52,8 @@ struct DeviceSight {
     standing: Standing,
     /// Where a fence failed since: where it stands by what was stored last.
     left: Option<Standing>,
+    /// What it held when it was read last, until that is asked for.
+    seen: Option<ImageContents>,
 }
 
 impl DeviceSight {
@@ -62,12 +62,13 @@ impl DeviceSight {
             shown,
             standing: Standing::new(role),
             left: None,
+            seen: None,
         }
     }
 
     /// Reads the image, if a word was stored since it was last looked at, or a fence failed. Once one has failed nothing is stored until the device crashes.
     /// Returns what was seen.
-    fn look(&mut self, alloc: Global, keyspaces: &[PlainRecords]) -> Result<Glance, Found> {
+    fn look(&mut self, alloc: Global, position: u64) -> Result<Glance, Found> {
         let fails = self.is_torn() && self.left.is_none();
         if !self.is_changed() && !fails {
             return Ok(Glance::SAME);
@@ -75,7 +76,7 @@ impl DeviceSight {
         if self.is_torn() && !fails {
             return Err(Found::Breach(Breach::Stopped));
         }
-        let found = self.read(alloc, keyspaces)?;
+        let found = self.read(alloc, position)?;
         self.stand(found, fails)?;
         Ok(Glance {
             is_changed: true,
@@ -83,17 +84,17 @@ impl DeviceSight {
         })
     }
 
-    /// Reads the image as it is now: it is whole, and holds one of these, the keyspaces of the list, at its position.
-    fn read(&self, alloc: Global, keyspaces: &[PlainRecords]) -> Result<Standing, Found> {
-        let Ok(mut shown) = self.shown.try_borrow_mut() else {
-            return Ok(self.newest());
-        };
-        shown.is_changed = false;
-        let Some(contents) = read_image(alloc, shown.words.as_slice())? else {
+    /// Reads the image as it is now: it is whole, and holds nothing above this position, that of the list.
+    fn read(&mut self, alloc: Global, position: u64) -> Result<Standing, Found> {
+        let Some(contents) = read_shown(alloc, &self.shown)? else {
             return Err(Found::Breach(Breach::Damaged));
         };
-        check_keyspace(&contents, keyspaces)?;
-        Ok(Standing::of(&contents.record))
+        let standing = Standing::of(&contents.record);
+        self.seen = Some(contents);
+        if position < standing.position {
+            return Err(Found::Breach(Breach::Ahead));
+        }
+        Ok(standing)
     }
 
     /// The image stands so, or would, where a fence fails. What a crash leaves after that stands as it did before, or so.
@@ -174,35 +175,13 @@ impl Glance {
     }
 }
 
-/// Checks what an image holds.
-pub fn check_keyspace(contents: &ImageContents, keyspaces: &[PlainRecords]) -> Result<(), Breach> {
-    let Some(keyspace) = keyspaces.get(contents.record.position as usize) else {
-        return Err(Breach::Ahead);
+/// The image that a device shows, which was looked at by this; `None` where that is no whole image.
+fn read_shown(alloc: Global, shown: &Shown) -> Result<Option<ImageContents>, AllocError> {
+    let Ok(mut shown) = shown.try_borrow_mut() else {
+        return Ok(None);
     };
-    if is_same(contents.keyspace.records(), keyspace) {
-        Ok(())
-    } else {
-        Err(Breach::Keyspace)
-    }
-}
-
-/// Whether the records of an image, in which none stands twice, are these.
-fn is_same(records: &[(RecordId, Value)], keyspace: &PlainRecords) -> bool {
-    records.len() == keyspace.len()
-        && records
-            .iter()
-            .all(|entry| has(keyspace, &entry.0, &entry.1))
-}
-
-fn has(keyspace: &PlainRecords, id: &RecordId, value: &Value) -> bool {
-    let field = match id.field() {
-        Some(field) => Some(field.as_slice()),
-        None => None,
-    };
-    match keyspace.get(id.key().as_slice(), field) {
-        Some(held) => held.as_slice() == value.as_slice(),
-        None => false,
-    }
+    shown.is_changed = false;
+    read_image(alloc, shown.words.as_slice())
 }
 
 /// What both devices show, and which node holds which.
@@ -242,6 +221,20 @@ impl Sight {
         self.device(node).words(alloc)
     }
 
+    /// What the device that was given as this node's held when it was read, if it was since this was last asked for; and whether it has seen a fence fail,
+    /// and no crash since.
+    pub fn take_seen(&mut self, node: Node) -> Option<(ImageContents, bool)> {
+        let device = match node {
+            Node::Primary => &mut self.first,
+            Node::Standby => &mut self.second,
+        };
+        let has_stopped = device.has_stopped();
+        match device.seen.take() {
+            Some(contents) => Some((contents, has_stopped)),
+            None => None,
+        }
+    }
+
     /// Whether the device that was given as this node's has seen a fence fail, and no crash since.
     pub fn has_stopped(&self, node: Node) -> bool {
         self.device(node).has_stopped()
@@ -269,32 +262,32 @@ impl Sight {
         }
     }
 
-    /// Looks at both devices after an event, in which the standby may have become the primary or not. Nothing happens to the device of a fenced primary.
+    /// Looks at both devices after an event of a list up to this position, in which the standby may have become the primary or not. Nothing happens to the device of a fenced primary.
     pub fn look(
         &mut self,
         alloc: Global,
-        keyspaces: &[PlainRecords],
+        position: u64,
         may_succeed: bool,
     ) -> Result<Glance, Found> {
         if self.is_fenced && self.first.is_changed() {
             return Err(Found::Breach(Breach::Succeeded));
         }
-        self.look_at_images(alloc, keyspaces, may_succeed)
+        self.look_at_images(alloc, position, may_succeed)
     }
 
     /// Looks at the images of the nodes that may still serve.
     pub fn look_at_images(
         &mut self,
         alloc: Global,
-        keyspaces: &[PlainRecords],
+        position: u64,
         may_succeed: bool,
     ) -> Result<Glance, Found> {
         let mut first = Glance::SAME;
         if !self.is_fenced {
-            first = self.first.look(alloc, keyspaces)?;
+            first = self.first.look(alloc, position)?;
             self.look_at_first()?;
         }
-        let second = self.second.look(alloc, keyspaces)?;
+        let second = self.second.look(alloc, position)?;
         if second.is_changed {
             self.look_at_second(may_succeed && self.is_fenced)?;
         }

@@ -10,7 +10,7 @@ pub struct Tally {
     pub promotions: u64,
     /// Fences that failed.
     pub faults: u64,
-    /// Replies that were compared with those of a plain Redis.
+    /// Calls that were answered.
     pub replies: u64,
     /// Links that were opened after an older image was put back, and those of them that were taken.
     pub restores: u64,
@@ -31,10 +31,9 @@ impl Tally {
         }
     }
 
-    /// One history more, of so many events.
-    pub fn count_history(&mut self, events: usize) {
-        self.histories = self.histories.saturating_add(1);
-        self.events = self.events.saturating_add(events as u64);
+    /// One event more was reached.
+    pub fn count_event(&mut self) {
+        self.events = self.events.saturating_add(1);
     }
 
     /// One more older image was put back, and the link was taken or not.
@@ -45,8 +44,10 @@ impl Tally {
         }
     }
 
-    /// What was counted of one history.
+    /// What was counted of one history more.
     pub fn add(&mut self, more: Tally) {
+        self.events = self.events.saturating_add(more.events);
+        self.histories = self.histories.saturating_add(1);
         self.crashes = self.crashes.saturating_add(more.crashes);
         self.promotions = self.promotions.saturating_add(more.promotions);
         self.faults = self.faults.saturating_add(more.faults);

@@ -1,18 +1,12 @@
-//! What the promise says of a pair, looked at after each event, by a plain Redis and what is read of both images.
+//! What the promise says of a pair, looked at after each event, by what is read of both images and the positions of the list.
 use crate::breach::Breach;
-use crate::client::Client;
 use crate::found::Found;
-use crate::plain_records::PlainRecords;
-use crate::plain_redis::PlainRedis;
-use crate::plain_replies::{put_array, put_bulk};
+use crate::replies::{position_of, position_released};
 use crate::shown::Shown;
-use crate::sight::{Glance, Sight, check_keyspace};
+use crate::sight::{Glance, Sight};
 use crate::tally::Tally;
-use bytes::Bytes;
-use kv_types::{Item, Reply};
 use machine::{Event, Node};
 use model::ImageContents;
-use resp_codec::write_reply;
 use std::alloc::{AllocError, Global};
 use world::History;
 
@@ -20,13 +14,9 @@ use world::History;
 #[derive(Drop)]
 pub struct Witness {
     alloc: Global,
-    redis: PlainRedis,
-    /// The keyspace after each number of calls that changed something.
-    keyspaces: Vec<PlainRecords>,
-    /// For each call of the list how many up to it changed something.
-    positions: Vec<u64>,
-    clients: Vec<Client>,
-    /// The position of the last call of which a byte was released to anyone.
+    /// The position of the list after the last event.
+    position: u64,
+    /// The greatest position of a call of which a byte was released.
     covered: u64,
     sight: Sight,
     /// Whether a fence of a device may fail that no event asked to.
@@ -36,44 +26,26 @@ pub struct Witness {
 
 impl Witness {
     /// Of a new pair, over devices that show this, of which a fence may fail that no event asks to.
-    pub fn new(
-        alloc: Global,
-        first: Shown,
-        second: Shown,
-        may_fail: bool,
-    ) -> Result<Witness, Found> {
-        let keyspaces = vec![in alloc; PlainRecords::new(alloc)]?;
-        let redis = PlainRedis::new(alloc, PlainRecords::new(alloc), 0)?;
-        Ok(Witness {
+    pub fn new(alloc: Global, first: Shown, second: Shown, may_fail: bool) -> Witness {
+        Witness {
             alloc,
-            redis,
-            keyspaces,
-            positions: Vec::new(alloc),
-            clients: Vec::new(alloc),
+            position: 0,
             covered: 0,
             sight: Sight::new(first, second),
             may_fail,
             tally: Tally::new(),
-        })
+        }
     }
 
     /// Looks at the images of a pair to which nothing happened.
     pub fn begin(&mut self) -> Result<(), Found> {
-        let _ = self.look(false)?;
+        let _ = self.look(0, false)?;
         Ok(())
     }
 
     /// The node that has stopped, if one has, and may crash.
     pub fn stopped(&self) -> Option<Node> {
         self.sight.stopped()
-    }
-
-    /// How many bytes of the replies to this connection were not released.
-    pub fn unreleased(&self, connection: u64) -> usize {
-        match self.clients.get(connection as usize) {
-            Some(client) => client.unreleased(),
-            None => 0,
-        }
     }
 
     /// The words of the image of this node, by who it was at the beginning; none where a fence of it failed, which leaves one of two. A standby that was
@@ -90,23 +62,31 @@ impl Witness {
         self.sight.words(self.alloc, node)
     }
 
+    /// What the image of this node holds, if it was read since this was last asked for; and whether a fence of it has failed since it crashed last.
+    pub fn take_seen(&mut self, node: Node) -> Option<(ImageContents, bool)> {
+        self.sight.take_seen(node)
+    }
+
     /// Whether the standby was promoted.
     pub fn is_promoted(&self) -> bool {
         self.sight.is_promoted()
     }
 
-    /// Checks what a primary holds that goes on to serve: all that was released, and what the list holds at its position.
-    pub fn check_serving(&self, contents: &ImageContents) -> Result<(), Breach> {
-        if contents.record.position < self.covered {
-            return Err(Breach::Older);
+    /// Checks where a primary stands that goes on to serve: it has all that was released.
+    pub fn check_serving(&self, position: u64) -> Result<(), Breach> {
+        if position < self.covered {
+            Err(Breach::Older)
+        } else {
+            Ok(())
         }
-        check_keyspace(contents, self.keyspaces.as_slice())
     }
 
     /// Looks at the pair after an event, which did its step or was not enabled.
     pub fn see(&mut self, event: &Event, did: bool, history: &History) -> Result<(), Found> {
+        self.tally.count_event();
         let was_promoted = self.sight.is_promoted();
-        let glance = self.look(did && may_succeed(event))?;
+        let before = std::mem::replace(&mut self.position, position_of(history));
+        let glance = self.look(before.max(self.position), did && may_succeed(event))?;
         if glance.is_changed && !did {
             return Err(Found::Breach(Breach::Changed));
         }
@@ -119,14 +99,15 @@ impl Witness {
         }
         if is_promoted && !was_promoted {
             self.tally.promotions = self.tally.promotions.saturating_add(1);
-            self.cut()?;
+            self.check_cut()?;
         }
-        self.look_at_all(history)
+        self.check_covered()
     }
 
     /// Looks at both images where a fence failed in this event, which ended the run.
     pub fn see_fault(&mut self, event: &Event) -> Result<(), Found> {
-        let glance = self.look(may_succeed(event))?;
+        self.tally.count_event();
+        let glance = self.look(self.position, may_succeed(event))?;
         if !glance.fails || !self.may_fail {
             return Err(Found::Breach(Breach::Ended));
         }
@@ -135,15 +116,13 @@ impl Witness {
 
     /// Looks at both images after that, once the devices crashed.
     pub fn see_left(&mut self) -> Result<(), Found> {
-        let keyspaces = self.keyspaces.as_slice();
-        let _ = self.sight.look_at_images(self.alloc, keyspaces, true)?;
+        let _ = self.sight.look_at_images(self.alloc, self.position, true)?;
         self.check_covered()
     }
 
-    /// Looks at both images. The standby may have become the primary, or not.
-    fn look(&mut self, may_succeed: bool) -> Result<Glance, Found> {
-        let keyspaces = self.keyspaces.as_slice();
-        let glance = self.sight.look(self.alloc, keyspaces, may_succeed)?;
+    /// Looks at both images, of a list up to this position. The standby may have become the primary, or not.
+    fn look(&mut self, position: u64, may_succeed: bool) -> Result<Glance, Found> {
+        let glance = self.sight.look(self.alloc, position, may_succeed)?;
         if glance.fails {
             self.tally.faults = self.tally.faults.saturating_add(1);
         }
@@ -153,117 +132,33 @@ impl Witness {
     /// Follows an event that did its step.
     fn follow(&mut self, event: &Event, history: &History) -> Result<(), Found> {
         match event {
-            Event::Enter => self.enter(),
-            Event::Feed(connection, piece) => self.feed(*connection, piece),
-            Event::Turn(connection) => self.turn(*connection, history),
-            Event::Crash(node, _, _, _) => self.crash(*node),
-            Event::Fence => {
-                self.sight.fence();
-                Ok(())
+            Event::Turn(_) => self.tally.replies = self.tally.replies.saturating_add(1),
+            Event::Crash(node, _, _, _) => self.crash(*node)?,
+            Event::Fence => self.sight.fence(),
+            Event::Write(connection, _) => {
+                let position = position_released(self.alloc, history, *connection)?;
+                self.covered = self.covered.max(position);
             }
-            _ => Ok(()),
-        }
-    }
-
-    fn enter(&mut self) -> Result<(), Found> {
-        self.clients.push(Client::new(self.alloc))?;
-        self.redis.enter()?;
-        Ok(())
-    }
-
-    fn feed(&mut self, connection: u64, piece: &Bytes) -> Result<(), Found> {
-        if let Some(client) = self.clients.get_mut(connection as usize) {
-            client.feed(piece)?;
+            _ => {}
         }
         Ok(())
     }
 
-    /// The list has one call more, of the next request of this connection.
-    fn turn(&mut self, connection: u64, history: &History) -> Result<(), Found> {
-        let number = self.positions.len();
-        let Some(call) = history.calls().get(number) else {
-            return Err(Found::Breach(Breach::List));
-        };
-        let Item::Request(request) = &call.item else {
-            return Err(Found::Breach(Breach::Request));
-        };
-        if call.connection != connection {
-            return Err(Found::Breach(Breach::List));
-        }
-        self.call(number, connection as usize, request.words(), &call.reply)
-    }
-
-    /// The call of this number is of these words, and answered so.
-    fn call(
-        &mut self,
-        number: usize,
-        connection: usize,
-        words: &[Bytes],
-        reply: &Reply,
-    ) -> Result<(), Found> {
-        let spelling = spelling_of(self.alloc, words)?;
-        let mut wanted = Vec::new(self.alloc);
-        if self.redis.call(connection, words, &mut wanted)? {
-            self.keyspaces.push(self.redis.records.copy(self.alloc)?)?;
-        }
-        let mut text = Vec::new(self.alloc);
-        write_reply(reply, &mut text)?;
-        if text.as_slice() != wanted.as_slice() {
-            return Err(Found::Breach(Breach::Reply));
-        }
-        let position = self.keyspaces.len().saturating_sub(1) as u64;
-        self.positions.push(position)?;
-        self.tally.replies = self.tally.replies.saturating_add(1);
-        let Some(client) = self.clients.get_mut(connection) else {
-            return Err(Found::Breach(Breach::List));
-        };
-        if !client.take(spelling.as_slice()) {
-            return Err(Found::Breach(Breach::Request));
-        }
-        client.answer(number, position, wanted.as_slice())?;
-        Ok(())
-    }
-
-    fn crash(&mut self, node: Node) -> Result<(), Found> {
+    fn crash(&mut self, node: Node) -> Result<(), Breach> {
         self.tally.crashes = self.tally.crashes.saturating_add(1);
         match node {
-            Node::Primary => self.cut(),
+            Node::Primary => self.check_cut(),
             Node::Standby => Ok(()),
         }
     }
 
-    /// The list is cut at the position of the image that serves, and goes on from there without connections.
-    fn cut(&mut self) -> Result<(), Found> {
-        let position = self.sight.serving();
-        let calls = self
-            .positions
-            .iter()
-            .filter(|own| **own <= position)
-            .count();
-        self.positions.truncate(calls);
-        self.keyspaces
-            .truncate((position as usize).saturating_add(1));
-        let records = match self.keyspaces.last() {
-            Some(records) => records.copy(self.alloc)?,
-            None => PlainRecords::new(self.alloc),
-        };
-        self.redis = PlainRedis::new(self.alloc, records, self.clients.len())?;
-        for client in self.clients.as_mut_slice() {
-            client.cut(calls)?;
+    /// The list was cut at the position of the image that serves.
+    fn check_cut(&self) -> Result<(), Breach> {
+        if self.position == self.sight.serving() {
+            Ok(())
+        } else {
+            Err(Breach::List)
         }
-        Ok(())
-    }
-
-    /// Looks at the list and at all that was released.
-    fn look_at_all(&mut self, history: &History) -> Result<(), Found> {
-        if history.calls().len() != self.positions.len() {
-            return Err(Found::Breach(Breach::List));
-        }
-        for (number, client) in self.clients.iter_mut().enumerate() {
-            let position = client.look(history.released(number as u64))?;
-            self.covered = self.covered.max(position);
-        }
-        self.check_covered()
     }
 
     /// Each call of which a byte was released is in the images of all nodes that may still serve.
@@ -278,14 +173,4 @@ impl Witness {
 /// Whether the standby may be the primary from this event on: it is promoted, or crashes in the middle of that, or after a fence failed there.
 fn may_succeed(event: &Event) -> bool {
     matches!(event, Event::Promote | Event::Crash(Node::Standby, _, _, _))
-}
-
-/// How the request of these words is spelled.
-fn spelling_of(alloc: Global, words: &[Bytes]) -> Result<Vec<u8>, AllocError> {
-    let mut text = Vec::new(alloc);
-    put_array(&mut text, words.len())?;
-    for word in words {
-        put_bulk(&mut text, Some(word))?;
-    }
-    Ok(text)
 }
