@@ -12,43 +12,22 @@ const STEPS_TO_MISS: u64 = 24;
 /// Which fence from now is to fail, at most.
 const MOST_FENCES: u64 = 6;
 
-/// An event whose numbers are drawn when it comes to it. A connection is named by its number.
+/// An event that comes, or one whose numbers are drawn when it comes to it. A connection is named by its number.
 #[derive(Debug, Drop)]
 pub enum Step {
-    Enter,
-    Feed(u64, Bytes),
-    Offer(u64),
-    Turn(u64),
-    CloseGroup,
-    Commit,
-    RaiseLocal,
-    Hand,
-    Free,
-    AcceptFreed,
-    ClearGap,
-    OpenLink,
-    Send,
+    As(Event),
     /// The frame that was sent last.
     DeliverLast,
     /// Any frame.
     DeliverAny,
-    Apply,
     /// The acknowledgement that was made last.
     AckLast,
     /// Any acknowledgement.
     AckAny,
-    RaiseRemote,
-    Hold(u64),
-    Read(u64, Mark),
-    Release(u64),
     /// Some bytes, or all that there may be.
     Write(u64),
-    Leave(u64),
     FailFence(Node),
     Crash(Node, Cut),
-    Reopen(Node),
-    Fence,
-    Promote,
 }
 
 /// What a history is drawn of: a few steps that belong together.
@@ -112,35 +91,14 @@ impl Drawing {
         let frames = history.frames.len() as u64;
         let acknowledgements = history.acknowledgements.len() as u64;
         Ok(match step {
-            Step::Enter => Event::Enter,
-            Step::Feed(connection, piece) => Event::Feed(connection, piece),
-            Step::Offer(connection) => Event::Offer(connection),
-            Step::Turn(connection) => Event::Turn(connection),
-            Step::CloseGroup => Event::CloseGroup,
-            Step::Commit => Event::Commit,
-            Step::RaiseLocal => Event::RaiseLocal,
-            Step::Hand => Event::Hand,
-            Step::Free => Event::Free,
-            Step::AcceptFreed => Event::AcceptFreed,
-            Step::ClearGap => Event::ClearGap,
-            Step::OpenLink => Event::OpenLink,
-            Step::Send => Event::Send,
+            Step::As(event) => event,
             Step::DeliverLast => Event::Deliver(frames.saturating_sub(1), self.piece()),
             Step::DeliverAny => Event::Deliver(self.up_to(frames), self.piece()),
-            Step::Apply => Event::Apply,
             Step::AckLast => Event::AckDelivered(acknowledgements.saturating_sub(1)),
             Step::AckAny => Event::AckDelivered(self.up_to(acknowledgements)),
-            Step::RaiseRemote => Event::RaiseRemote,
-            Step::Hold(connection) => Event::Hold(connection),
-            Step::Read(connection, mark) => Event::Read(connection, mark),
-            Step::Release(connection) => Event::Release(connection),
             Step::Write(connection) => Event::Write(connection, self.bytes(connection, history)?),
-            Step::Leave(connection) => Event::Leave(connection),
             Step::FailFence(node) => Event::FailFence(node, self.up_to(MOST_FENCES)),
             Step::Crash(node, cut) => self.crash(node, cut)?,
-            Step::Reopen(node) => Event::Reopen(node),
-            Step::Fence => Event::Fence,
-            Step::Promote => Event::Promote,
         })
     }
 
@@ -155,7 +113,7 @@ impl Drawing {
             Act::Free => self.free(),
             Act::Repeat => self.repeat(),
             Act::Link => self.link(),
-            Act::Enter => self.add(Step::Enter),
+            Act::Enter => self.add(Step::As(Event::Enter)),
             Act::Leave => self.leave(),
             Act::Crash(node) => self.crash_and_reopen(node),
             Act::Fail(node) => self.fail_a_fence(node),
@@ -168,29 +126,29 @@ impl Drawing {
         if self.dice.is_one_of(4) {
             self.ask_a_fence(Node::Primary)?;
         }
-        self.add(Step::Fence)?;
+        self.add(Step::As(Event::Fence))?;
         if self.dice.is_one_of(2) {
             self.follow()?;
         }
         if self.dice.is_one_of(3) {
             self.add(Step::Crash(Node::Standby, Cut::Between))?;
-            self.add(Step::Reopen(Node::Standby))?;
+            self.add(Step::As(Event::Reopen(Node::Standby)))?;
         }
         if self.dice.is_one_of(3) {
             self.fail_a_promotion()?;
         }
-        self.add(Step::Promote)?;
-        self.add(Step::Enter)?;
-        self.add(Step::Enter)
+        self.add(Step::As(Event::Promote))?;
+        self.add(Step::As(Event::Enter))?;
+        self.add(Step::As(Event::Enter))
     }
 
     /// A fence fails while the standby is promoted. It crashes, and is opened as what it is by then.
     fn fail_a_promotion(&mut self) -> Result<(), AllocError> {
         self.add(Step::FailFence(Node::Standby))?;
-        self.add(Step::Promote)?;
+        self.add(Step::As(Event::Promote))?;
         self.add(Step::Crash(Node::Standby, Cut::Between))?;
-        self.add(Step::Reopen(Node::Standby))?;
-        self.add(Step::Reopen(Node::Primary))
+        self.add(Step::As(Event::Reopen(Node::Standby)))?;
+        self.add(Step::As(Event::Reopen(Node::Primary)))
     }
 
     fn drawn_act(&mut self) -> Act {
@@ -225,13 +183,13 @@ impl Drawing {
             let at = self.dice.below((rest.len() as u64).max(1)) as usize;
             if at <= rest.len() {
                 let first = rest.split_to(at)?;
-                self.add(Step::Feed(connection, first))?;
+                self.add(Step::As(Event::Feed(connection, first)))?;
             }
         }
-        self.add(Step::Feed(connection, rest))?;
-        self.mostly(Step::Offer(connection))?;
-        self.mostly(Step::Turn(connection))?;
-        self.mostly(Step::Hold(connection))
+        self.add(Step::As(Event::Feed(connection, rest)))?;
+        self.mostly(Step::As(Event::Offer(connection)))?;
+        self.mostly(Step::As(Event::Turn(connection)))?;
+        self.mostly(Step::As(Event::Hold(connection)))
     }
 
     fn transact(&mut self) -> Result<(), AllocError> {
@@ -247,57 +205,57 @@ impl Drawing {
     }
 
     fn commit(&mut self) -> Result<(), AllocError> {
-        self.mostly(Step::CloseGroup)?;
-        self.mostly(Step::Commit)?;
-        self.mostly(Step::RaiseLocal)?;
-        self.mostly(Step::Hand)
+        self.mostly(Step::As(Event::CloseGroup))?;
+        self.mostly(Step::As(Event::Commit))?;
+        self.mostly(Step::As(Event::RaiseLocal))?;
+        self.mostly(Step::As(Event::Hand))
     }
 
     /// The standby takes what was sent last.
     fn follow(&mut self) -> Result<(), AllocError> {
         self.mostly(Step::DeliverLast)?;
-        self.mostly(Step::Apply)
+        self.mostly(Step::As(Event::Apply))
     }
 
     fn replicate(&mut self) -> Result<(), AllocError> {
-        self.mostly(Step::Send)?;
+        self.mostly(Step::As(Event::Send))?;
         self.follow()?;
         self.mostly(Step::AckLast)?;
-        self.mostly(Step::RaiseRemote)
+        self.mostly(Step::As(Event::RaiseRemote))
     }
 
     fn release(&mut self) -> Result<(), AllocError> {
         let connection = self.connection();
-        self.mostly(Step::Hold(connection))?;
-        self.mostly(Step::Read(connection, Mark::Local))?;
-        self.mostly(Step::Read(connection, Mark::Remote))?;
-        self.mostly(Step::Release(connection))?;
+        self.mostly(Step::As(Event::Hold(connection)))?;
+        self.mostly(Step::As(Event::Read(connection, Mark::Local)))?;
+        self.mostly(Step::As(Event::Read(connection, Mark::Remote)))?;
+        self.mostly(Step::As(Event::Release(connection)))?;
         self.mostly(Step::Write(connection))
     }
 
     fn free(&mut self) -> Result<(), AllocError> {
-        self.mostly(Step::CloseGroup)?;
-        self.mostly(Step::Free)?;
-        self.mostly(Step::AcceptFreed)?;
-        self.mostly(Step::ClearGap)
+        self.mostly(Step::As(Event::CloseGroup))?;
+        self.mostly(Step::As(Event::Free))?;
+        self.mostly(Step::As(Event::AcceptFreed))?;
+        self.mostly(Step::As(Event::ClearGap))
     }
 
     fn repeat(&mut self) -> Result<(), AllocError> {
         self.add(Step::DeliverAny)?;
-        self.mostly(Step::Apply)?;
+        self.mostly(Step::As(Event::Apply))?;
         self.mostly(Step::AckAny)
     }
 
     fn link(&mut self) -> Result<(), AllocError> {
-        self.add(Step::OpenLink)?;
+        self.add(Step::As(Event::OpenLink))?;
         self.replicate()?;
         self.replicate()
     }
 
     fn leave(&mut self) -> Result<(), AllocError> {
         let connection = self.connection();
-        self.add(Step::Leave(connection))?;
-        self.add(Step::Enter)
+        self.add(Step::As(Event::Leave(connection)))?;
+        self.add(Step::As(Event::Enter))
     }
 
     fn crash_and_reopen(&mut self, node: Node) -> Result<(), AllocError> {
@@ -310,10 +268,10 @@ impl Drawing {
         if self.dice.is_one_of(3) {
             self.replicate()?;
         }
-        self.add(Step::Reopen(node))?;
+        self.add(Step::As(Event::Reopen(node)))?;
         if node == Node::Primary {
-            self.add(Step::Enter)?;
-            self.add(Step::Enter)?;
+            self.add(Step::As(Event::Enter))?;
+            self.add(Step::As(Event::Enter))?;
         }
         if self.dice.is_one_of(4) {
             return Ok(());
@@ -343,10 +301,10 @@ impl Drawing {
         match cut {
             Cut::Commit => {
                 self.ask()?;
-                self.add(Step::CloseGroup)?;
+                self.add(Step::As(Event::CloseGroup))?;
             }
             Cut::Apply => {
-                self.add(Step::Send)?;
+                self.add(Step::As(Event::Send))?;
                 self.add(Step::DeliverLast)?;
             }
             Cut::Free | Cut::ClearGap => self.free()?,

@@ -55,8 +55,8 @@ impl Drawing {
             failover,
             is_ending: false,
         };
-        drawing.add(Step::Enter)?;
-        drawing.add(Step::Enter)?;
+        drawing.add(Step::As(Event::Enter))?;
+        drawing.add(Step::As(Event::Enter))?;
         Ok(drawing)
     }
 

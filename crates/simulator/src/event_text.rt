@@ -11,7 +11,7 @@ use crate::quoted::Quoted;
 use crate::spelling::spelled;
 use bytes::Bytes;
 use hex::FromHexError;
-use machine::{Cut, Event, Mark, Node};
+use machine::{Cut, Event, Node};
 use std::alloc::{AllocError, Global};
 use std::io;
 use std::io::Write;
@@ -27,27 +27,15 @@ pub fn read_event(
     Ok(event)
 }
 
-/// The event with this name, whose words may be bytes.
+/// The event with this name, and its words.
 fn event_named(alloc: Global, name: &str, words: &mut LineWords<'_>) -> Result<Event, LineError> {
     match name {
         "feed" => read_request(alloc, words),
         "feed-bytes" => read_piece(alloc, words),
         "crash" => read_crash(alloc, words),
-        _ => Ok(event_of_words(name, words)?),
-    }
-}
-
-/// The event with this name, whose words are numbers, marks and nodes.
-fn event_of_words(name: &str, words: &mut LineWords<'_>) -> Result<Event, Cause> {
-    match name {
-        "read" => read_mark(words),
-        "write" => read_write(words),
-        "deliver" => read_deliver(words),
-        "reopen" => Ok(Event::Reopen(words.node()?)),
-        "fail-fence" => read_failure(words),
         _ => match event_alone(name) {
             Some(event) => Ok(event),
-            None => event_with_number(name, words),
+            None => Ok(event_of_words(name, words)?),
         },
     }
 }
@@ -73,40 +61,22 @@ fn event_alone(name: &str) -> Option<Event> {
     }
 }
 
-/// The event whose name takes a number: a connection or an acknowledgement.
-fn event_with_number(name: &str, words: &mut LineWords<'_>) -> Result<Event, Cause> {
-    let number = words.number();
+/// The event whose name takes numbers, marks and nodes. A frame comes whole, where no number says in how many bytes at a time.
+fn event_of_words(name: &str, words: &mut LineWords<'_>) -> Result<Event, Cause> {
     match name {
-        "offer" => Ok(Event::Offer(number?)),
-        "turn" => Ok(Event::Turn(number?)),
-        "ack-delivered" => Ok(Event::AckDelivered(number?)),
-        "hold" => Ok(Event::Hold(number?)),
-        "release" => Ok(Event::Release(number?)),
-        "leave" => Ok(Event::Leave(number?)),
+        "offer" => Ok(Event::Offer(words.number()?)),
+        "turn" => Ok(Event::Turn(words.number()?)),
+        "deliver" => Ok(Event::Deliver(words.number()?, words.number_or(0)?)),
+        "ack-delivered" => Ok(Event::AckDelivered(words.number()?)),
+        "hold" => Ok(Event::Hold(words.number()?)),
+        "read" => Ok(Event::Read(words.number()?, words.mark()?)),
+        "release" => Ok(Event::Release(words.number()?)),
+        "write" => Ok(Event::Write(words.number()?, words.number()?)),
+        "leave" => Ok(Event::Leave(words.number()?)),
+        "fail-fence" => Ok(Event::FailFence(words.node()?, words.number()?)),
+        "reopen" => Ok(Event::Reopen(words.node()?)),
         _ => Err(Cause::UnknownEvent),
     }
-}
-
-fn read_mark(words: &mut LineWords<'_>) -> Result<Event, Cause> {
-    let connection = words.number()?;
-    Ok(Event::Read(connection, words.mark()?))
-}
-
-fn read_write(words: &mut LineWords<'_>) -> Result<Event, Cause> {
-    let connection = words.number()?;
-    Ok(Event::Write(connection, words.number()?))
-}
-
-/// A node, and which of its fences fails from then on.
-fn read_failure(words: &mut LineWords<'_>) -> Result<Event, Cause> {
-    let node = words.node()?;
-    Ok(Event::FailFence(node, words.number()?))
-}
-
-/// A frame, and in how many bytes at a time it comes: whole, where no number says so.
-fn read_deliver(words: &mut LineWords<'_>) -> Result<Event, Cause> {
-    let frame = words.number()?;
-    Ok(Event::Deliver(frame, words.number_or(0)?))
 }
 
 /// A connection, and the words of a request.
@@ -149,7 +119,7 @@ pub fn write_words_of<W: Write>(
         Event::Crash(node, cut, after, picks) => {
             Ok(write_crash(out, *node, *cut, *after, picks.as_slice())?)
         }
-        _ => Ok(write_words(out, event)?),
+        _ => write_words(alloc, out, event),
     }
 }
 
@@ -184,52 +154,25 @@ fn write_crash<W: Write>(
     writeln!(out)
 }
 
-/// An event of numbers, marks and nodes.
-fn write_words<W: Write>(out: &mut W, event: &Event) -> io::Result<()> {
-    match event {
-        Event::Offer(connection) => writeln!(out, "offer {connection}"),
-        Event::Turn(connection) => writeln!(out, "turn {connection}"),
-        Event::Deliver(frame, 0) => writeln!(out, "deliver {frame}"),
-        Event::Deliver(frame, piece) => writeln!(out, "deliver {frame} {piece}"),
-        Event::AckDelivered(number) => writeln!(out, "ack-delivered {number}"),
-        Event::Hold(connection) => writeln!(out, "hold {connection}"),
-        Event::Read(connection, Mark::Local) => writeln!(out, "read {connection} local"),
-        Event::Read(connection, Mark::Remote) => writeln!(out, "read {connection} remote"),
-        Event::Release(connection) => writeln!(out, "release {connection}"),
-        Event::Write(connection, count) => writeln!(out, "write {connection} {count}"),
-        Event::Leave(connection) => writeln!(out, "leave {connection}"),
-        Event::FailFence(node, fence) => {
-            let node = name_of(*node);
-            writeln!(out, "fail-fence {node} {fence}")
-        }
-        Event::Reopen(node) => {
-            let node = name_of(*node);
-            writeln!(out, "reopen {node}")
-        }
-        _ => {
-            let name = name_alone(event);
-            writeln!(out, "{name}")
-        }
+/// An event of numbers, marks and nodes: a name in a script is that of the machine, with a hyphen between its words, in place of capitals.
+fn write_words<W: Write>(alloc: Global, out: &mut W, event: &Event) -> Result<(), SimulatorError> {
+    let mut text = Vec::new(alloc);
+    write!(text, "{event:?}")?;
+    let mut is_in_word = false;
+    for byte in text.as_slice() {
+        write_byte(out, *byte, is_in_word)?;
+        is_in_word = byte.is_ascii_alphabetic();
     }
+    writeln!(out)?;
+    Ok(())
 }
 
-/// The name of an event that takes no more words.
-fn name_alone(event: &Event) -> &'static str {
-    match event {
-        Event::Enter => "enter",
-        Event::CloseGroup => "close-group",
-        Event::Commit => "commit",
-        Event::RaiseLocal => "raise-local",
-        Event::Hand => "hand",
-        Event::Free => "free",
-        Event::AcceptFreed => "accept-freed",
-        Event::ClearGap => "clear-gap",
-        Event::OpenLink => "open-link",
-        Event::Send => "send",
-        Event::Apply => "apply",
-        Event::RaiseRemote => "raise-remote",
-        Event::Fence => "fence",
-        Event::Promote => "promote",
-        _ => "",
+/// One byte of the text of an event, which stands behind a letter or not.
+fn write_byte<W: Write>(out: &mut W, byte: u8, is_in_word: bool) -> io::Result<()> {
+    match byte {
+        b'A'..=b'Z' if is_in_word => out.write_all(&[b'-', byte.to_ascii_lowercase()]),
+        b'(' | b',' => out.write_all(b" "),
+        b')' | b' ' => Ok(()),
+        _ => out.write_all(&[byte.to_ascii_lowercase()]),
     }
 }
