@@ -2,14 +2,17 @@
 acknowledges them once, by the position of the last."""
 
 import plain_image
-from plain_image import STANDBY
+from plain_image import STANDBY, Words
 from plain_keyspace import Put
 from plain_wire import ACK_BYTES, Acknowledgement, Group, text
 from plain_writer import Writer
 from standby_node import Node, StandingBy
-from test_images import LINES
+from test_images import LINES, image_bytes, words_of
 
 PROGRAMS = ["server"]
+
+# An image with a spare place at its end, beside which frames are joined; one of LINES has none.
+LINES_WITH_A_SPARE_PLACE = 32_768
 
 
 def frame(before, after, *keys, epoch=1):
@@ -50,14 +53,18 @@ class JoinedFrames(StandingBy):
                 self.assertIn(found.removeprefix(3 * again), [b"".join(text(Acknowledgement(1, at)) for at in ats) for ats in ([11, 12], [12])])
                 self.assert_map(path, 12, [*TEN, *more[2:]])
 
+    def record_number(self, path):
+        return plain_image.read_image(Words(LINES_WITH_A_SPARE_PLACE, words_of(path.read_bytes()))).record.number
+
     def test_ten_frames_under_fewer_records(self):
         with self.folder() as folder:
-            path = self.made(folder, Writer(LINES, STANDBY).words)
+            path = folder / "s.img"
+            path.write_bytes(image_bytes(LINES_WITH_A_SPARE_PLACE, Writer(LINES_WITH_A_SPARE_PLACE, STANDBY).words))
             with Node(path) as node:
                 self.assertEqual(node.exchange(), text(Acknowledgement(1, 0)))
-                before = plain_image.read_image(self.words(path)).record.number
+                before = self.record_number(path)
                 self.assert_answers(node.exchange(b"".join(map(text, TEN))), 10)
-                self.assertLess(plain_image.read_image(self.words(path)).record.number - before, len(TEN))
+                self.assertLess(self.record_number(path) - before, len(TEN))
 
     def test_what_does_not_follow_is_refused(self):
         """The frames before it are taken and acknowledged, and the link ends."""
