@@ -57,7 +57,7 @@ module _ {E : Type 0} (device : E → State) (contents : E → Contents) (is_fau
       let second = tends-acts device contents is_faulted seats round.mark connections.is_short gathering round.noted1 round.home1 round.lender1 round.ahead1 round.told round.home2 round.lender2 round.ahead2 round.tended round.before first.job'
       closed first.is_job round.tends in
       let visits = serves-acts seats c round.noted1.closed connections connections' round.tended round.served seated round.visits unseated free in
-      let third = tends-acts device contents is_faulted visits.seats' read connections'.is_short round.noted1 noted round.home2 round.lender2 round.ahead2 round.served home' lender' ahead' new round.after second.job'
+      let third = tends-acts device contents is_faulted visits.seats' read connections'.is_short (record round.noted1 { lines = connections'.filling.lines }) noted round.home2 round.lender2 round.ahead2 round.served home' lender' ahead' new round.after second.job'
       closed' second.is_job round.tends_again in
       record {
         seats' = visits.seats';

@@ -24,7 +24,7 @@ ClosesDue due old before new after false = ((due ≡ false) ⊎ (¬ MayClose old
 abbrev pub ClosesGroup : Gathering → ℕ → Bool → Sequencing → Waiting Work → Sequencing → Waiting Work → Gathering → Bool → Type 0
 ClosesGroup gathering remote is_short old before new after noted did =
     ClosesDue (is_group_due gathering old.position remote is_short) old before new after did
-    × (noted.quiet_rounds ≡ gathering.quiet_rounds) × (did ≡ true → noted.closed ≡ old.position) × (did ≡ false → noted.closed ≡ gathering.closed)
+    × (noted.quiet_rounds ≡ gathering.quiet_rounds) × (did ≡ true → noted.closed ≡ old.position) × (did ≡ false → noted.closed ≡ gathering.closed) × (noted.lines ≡ gathering.lines)
 
 -- What has ended, where it is due to be a list.
 abbrev pub ClosesList : Gathering → ℕ → Bool → Sequencing → Waiting Work → Sequencing → Waiting Work → Bool → Type 0

@@ -1,15 +1,19 @@
 -- When the changes that wait become a group, and the versions that have ended a free list.
-use Rattle.std.specs.Prelude.{ℕ, ◌-◌, Bool, false, nat_le, nat_lt, min, ◌&&◌, ◌||◌}
+use Rattle.std.specs.Prelude.{ℕ, ◌-◌, Bool, false, nat_le, nat_lt, min, ◌&&◌, ◌||◌, if◌then◌else◌}
 use Rattle.model.specs.declared.group.TheConstants.{MAX_PARTS}
 use Rattle.serving.specs.declared.gathering.Gathering.{Gathering}
-use Rattle.serving.specs.declared.gathering.TheConstants.{IDLE_ROUNDS, LISTED_AT_ONCE, MOST_ON_THE_WAY}
+use Rattle.serving.specs.declared.gathering.TheConstants.{IDLE_ROUNDS, LISTED_AT_ONCE, MOST_BEFORE_HEAVY, MOST_LIGHT, MOST_ON_THE_WAY}
+
+-- while so many changes are in groups that the standby has not acknowledged, those that wait are not closed: fewer where they take many lines
+abbrev pub most_on_the_way : Gathering → ℕ
+most_on_the_way gathering = if nat_lt MOST_LIGHT gathering.lines then MOST_BEFORE_HEAVY else MOST_ON_THE_WAY
 
 -- Changes wait, and fewer than so many are in groups that the standby has not acknowledged; and a request waits for room, or as many changes wait as those, or
 -- as a group may have.
 abbrev pub is_group_due : Gathering → ℕ → ℕ → Bool → Bool
 is_group_due gathering position remote is_short =
     nat_lt 0 (position - gathering.closed)
-    && (nat_lt (gathering.closed - remote) MOST_ON_THE_WAY
+    && (nat_lt (gathering.closed - remote) (most_on_the_way gathering)
     && (is_short || nat_le (min (gathering.closed - remote) MAX_PARTS) (position - gathering.closed)))
 
 -- The changes that wait are due to be a group, and as many as one may have.

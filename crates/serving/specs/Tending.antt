@@ -149,6 +149,6 @@ module _ {E : Type 0} (device : E → State) (contents : E → Contents) (is_fau
     pub serves : Serves tended served
     pub visits : ServesRound noted1.closed connections connections' tended served
     pub after : Tended
-    pub tends_again : Tends read connections'.is_short noted1 noted home2 lender2 ahead2 served home' lender' ahead' new after
+    pub tends_again : Tends read connections'.is_short (record noted1 { lines = connections'.filling.lines }) noted home2 lender2 ahead2 served home' lender' ahead' new after
     pub rises : (known.remote ≤ mark.remote) × (mark.remote ≤ read.remote) × (known.heard ≡ 1 → mark.heard ≡ 1) × (mark.heard ≡ 1 → read.heard ≡ 1)
     pub is_busy_is : is_busy ≡ (((did_fetch fetched || did_tend before) || has_served) || did_tend after)

@@ -3,6 +3,7 @@ ghost use Rattle.std.specs.Prelude.{◌≡◌, ◌+◌, ◌-◌, min, if◌then�
 ghost use Rattle.serving.specs.Gathering as spec;
 ghost use Rattle.serving.specs.declared.gathering.TheConstants.{IDLE_ROUNDS};
 
+use crate::filling::MOST_LINES;
 use crate::making::NODE_SPIN;
 use model::MAX_PARTS;
 
@@ -12,18 +13,26 @@ pub(crate) const LISTED_AT_ONCE: usize = 1_024;
 
 /// While so many changes are in groups that the standby has not acknowledged, no further group is closed, and so, behind `MAX_PARTS` changes more, no request is
 /// turned: whoever asks next waits for the changes of seventeen groups at most, and its own group, however much others send and however slow the standby is. It
-/// bounds what one sync of either node may be for, and of values no more than seventeen groups of `MOST_LINES` are on their way. So 50 clients that each have 16
-/// requests on their way find room for all 800 of them.
+/// bounds what one sync of either node may be for. So 50 clients that each have 16 requests on their way find room for all 800 of them.
 pub(crate) const MOST_ON_THE_WAY: u64 = 16 * MAX_PARTS as u64;
+
+/// While so many are, no group is closed that takes more than `MOST_LIGHT` lines: whoever asks beside long values waits for three such groups at most, the one
+/// that waits, and its own.
+pub(crate) const MOST_BEFORE_HEAVY: u64 = 2 * MAX_PARTS as u64;
+
+/// So many lines of 64 bytes a group takes at most that may be one of seventeen on the way, 520 KiB: with values of 4 KiB, 64 changes take fewer.
+pub(crate) const MOST_LIGHT: u64 = MOST_LINES / 8;
 
 /// After so many rounds in a row without work the node is idle: its thread is about to sleep.
 const IDLE_ROUNDS: u32 = NODE_SPIN;
 
-/// How far the changes are closed into groups, and how long the node has had nothing to do.
+/// How far the changes are closed into groups, how much the others take, and how long the node has had nothing to do.
 #[derive(Clone, Copy)]
 pub(crate) struct Gathering {
     /// The position of the last change that is in a group.
     pub(crate) closed: u64,
+    /// How many lines the changes behind it may take at most, as was noted last.
+    pub(crate) lines: u64,
     /// How many rounds in a row were without work, `IDLE_ROUNDS` at most.
     pub(crate) quiet_rounds: u32,
 }
@@ -31,10 +40,11 @@ pub(crate) struct Gathering {
 impl Gathering {
     /// All changes up to this position are in groups, and the node has work.
     pub(crate) fn new(closed: u64) -> Gathering
-        ensures { (result.closed ≡ closed) × (result.quiet_rounds ≡ 0) }
+        ensures { result ≡ record { closed = closed; lines = 0; quiet_rounds = 0 } }
     {
         Gathering {
             closed,
+            lines: 0,
             quiet_rounds: 0,
         }
     }
@@ -50,7 +60,14 @@ impl Gathering {
         };
     }
 
-    /// Whether the changes up to this position that wait become a group: fewer than `MOST_ON_THE_WAY` are in groups that the standby has not acknowledged, some
+    /// The changes that wait may take so many lines of 64 bytes.
+    pub(crate) fn note_lines(&mut self, lines: u64)
+        ensures { self.new ≡ record self.old { lines = lines } }
+    {
+        self.lines = lines;
+    }
+
+    /// Whether the changes up to this position that wait become a group: fewer than `most_on_the_way` are in groups that the standby has not acknowledged, some
     /// wait, and as many as those, or as a group may have; or a request waits for room (`is_short`). So a lone client waits for nobody, and many clients' changes
     /// do not go out one by one while the fences and the link are busy with a few.
     pub(crate) fn is_group_due(&self, position: u64, remote: u64, is_short: bool) -> bool
@@ -59,7 +76,18 @@ impl Gathering {
         let waiting = self.waiting(position);
         let on_the_way = self.closed.saturating_sub(remote);
         let is_large = on_the_way.min(MAX_PARTS as u64) <= waiting;
-        waiting > 0 && on_the_way < MOST_ON_THE_WAY && (is_short || is_large)
+        waiting > 0 && on_the_way < self.most_on_the_way() && (is_short || is_large)
+    }
+
+    /// While so many changes are on the way, those that wait are not closed.
+    fn most_on_the_way(&self) -> u64
+        ensures { result ≡ spec.most_on_the_way self.now }
+    {
+        if self.lines > MOST_LIGHT {
+            MOST_BEFORE_HEAVY
+        } else {
+            MOST_ON_THE_WAY
+        }
     }
 
     /// How many changes up to this position wait to be in a group.

@@ -71,7 +71,6 @@ struct NodeState<E: Durable, K: Keyspace> {
     connections: OpenConnections,
     marks: ThreadMarks,
     lender: Lender<CommitJob<E>, Committing<E>>,
-    /// Wakes the committer's thread.
     waker: Waker,
     /// The job, where it is not lent.
     home: Option<CommitJob<E>>,
@@ -176,7 +175,6 @@ fn take_round<R: Wait + Clock, E: Durable + Drop, K: Keyspace>(
     ensures round { IfOk result (TakesRound E.device E.contents E.is_faulted state.old.marks state.old.connections state.old.gathering
         state.old.home state.old.lender state.old.ahead state.old.front.sequencer state.new.marks state.new.connections state.new.gathering
         state.new.home state.new.lender state.new.ahead state.new.front.sequencer) }
-    // the past that was kept goes on
     ensures past { OnOk result (PastGoesOn E.device E.contents E.is_faulted state.new.marks.remote (job_of state.old.home state.old.lender.value state.old.ahead) state.old.front.sequencer
         (job_of state.new.home state.new.lender.value state.new.ahead) state.new.front.sequencer) }
     ensures shown { OnOk result (state.new.fill ≡ fill_of (state.new.front.sequencer).table (state.new.front.sequencer).room) }
@@ -194,7 +192,7 @@ fn take_round<R: Wait + Clock, E: Durable + Drop, K: Keyspace>(
     Ok(fetched.is_busy() | before.is_busy() | served | after.is_busy())
 }
 
-/// Takes in who waits at the entrance, and serves who called. Answers whether there was anybody.
+/// Takes in who waits at the entrance, serves who called, and notes the lines of what waits then. Answers whether there was anybody.
 fn serve_connections<R: Wait, E: Durable + Drop, K: Keyspace>(
     rt: &R,
     alloc: Global,
@@ -207,7 +205,7 @@ fn serve_connections<R: Wait, E: Durable + Drop, K: Keyspace>(
     ensures home { state.new.home ≡ state.old.home }
     ensures lender { state.new.lender ≡ state.old.lender }
     ensures ahead { state.new.ahead ≡ state.old.ahead }
-    ensures gathering { state.new.gathering ≡ state.old.gathering }
+    ensures gathering { state.new.gathering ≡ record state.old.gathering { lines = state.new.connections.filling.lines } }
     ensures visits { ServesRound state.old.gathering.closed state.old.connections state.new.connections state.old.front.sequencer state.new.front.sequencer }
 {
     let is_working = is_room_coming(&state.home);
@@ -220,6 +218,8 @@ fn serve_connections<R: Wait, E: Durable + Drop, K: Keyspace>(
         &mut state.marks,
         state.gathering.closed,
     );
+    let lines = state.connections.lines_waiting();
+    state.gathering.note_lines(lines);
     admitted | served
 }
 

@@ -122,6 +122,13 @@ impl OpenConnections {
         self.is_short
     }
 
+    /// How many lines of 64 bytes the changes may take at most that waited to be in a group when connections were served last.
+    pub(crate) fn lines_waiting(&self) -> u64
+        ensures { result ≡ self.now.filling.lines }
+    {
+        self.filling.lines
+    }
+
     /// Lists those that somebody called for. Answers whether there may be more.
     fn list_called<R: Wait>(&mut self, rt: &R) -> bool
         ensures heeds { (s : Sequencing) → HeedsCalls (answers_of (self.old).callers.answers) (answers_of (self.new).callers.answers) (floor_of self.old s) (floor_of self.new s) }

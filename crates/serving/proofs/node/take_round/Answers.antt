@@ -1,4 +1,4 @@
-use Rattle.std.proofs.Common.{◌≡◌, ap, arith, subst, sym}
+use Rattle.std.proofs.Common.{◌≡◌, ◌∙◌, ap, arith, subst, sym}
 use Rattle.serving.specs.Keeping.{JobKeepsThrough, job_of}
 use Rattle.serving.specs.Visiting.{ServesRound}
 use Rattle.serving.specs.declared.open_connections.OpenConnections.{OpenConnections}
@@ -49,9 +49,10 @@ returns-clause-round g c =
       visits = subst (λ (after : OpenConnections). ServesRound tended.gathering.closed c.args.state.now.connections after tended.front.sequencer served.front.sequencer) (sym still)
           (subst (λ (before : OpenConnections). ServesRound tended.gathering.closed before served.connections tended.front.sequencer served.front.sequencer) c.commit_due.ensures.connections serving.visits);
       after = c.in_ok-after.after;
-      tends_again = tends-same E.device E.contents E.is_faulted last.marks served.connections.is_short last.connections.is_short served.gathering tended.gathering last.gathering
+      tends_again = tends-same E.device E.contents E.is_faulted last.marks served.connections.is_short last.connections.is_short served.gathering (record tended.gathering { lines = last.connections.filling.lines }) last.gathering
           served.home tended.home served.lender tended.lender served.ahead tended.ahead served.front.sequencer last.home last.lender last.ahead last.front.sequencer c.in_ok-after.after
-          (ap (λ (connections : OpenConnections). connections.is_short) (sym still)) serving.gathering serving.home serving.lender serving.ahead c.in_ok-after.ensures.tends;
+          (ap (λ (connections : OpenConnections). connections.is_short) (sym still))
+          (serving.gathering ∙ ap (λ (connections : OpenConnections). record tended.gathering { lines = connections.filling.lines }) (sym still)) serving.home serving.lender serving.ahead c.in_ok-after.ensures.tends;
       rises = (first_read.1, omega (arith, serving.read.1, last_read.1), first_read.2, λ heard. last_read.2 (serving.read.2 heard));
       is_busy_is = cc;
     }
