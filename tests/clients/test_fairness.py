@@ -24,7 +24,7 @@ SECONDS, ASKED, PIPELINES = 6, 15, (1, 3, 50)
 # without end here.
 MOST = {100: 30_000, 4_096: 10_000, 65_536: 2_000, 1_048_576: 200}
 # The same where each sync of the standby takes so many milliseconds more and the primary's none, so that whatever is on its way waits there: sixteen groups'
-# changes are, of long values three groups', and one more may be full; half of them are INCRs.
+# changes are, of long values four groups', and one more may be full; half of them are INCRs.
 SLOW_MILLISECONDS, MOST_WHERE_SLOW = 2, {100: 1_000, 65_536: 320}
 
 
