@@ -16,8 +16,8 @@ pub(crate) const LISTED_AT_ONCE: usize = 1_024;
 /// bounds what one sync of either node may be for. So 50 clients that each have 16 requests on their way find room for all 800 of them.
 pub(crate) const MOST_ON_THE_WAY: u64 = 16 * MAX_PARTS as u64;
 
-/// While so many are, no group is closed that takes more than `MOST_LIGHT` lines: whoever asks beside long values waits for four such groups at most, the one
-/// that waits, and its own. With two in place of three the standby waits for the next one now and then.
+/// While so many are, no group is closed that takes more than `MOST_LIGHT` lines. So whoever asks beside values of 64 KiB, of which a group has 64, waits for four
+/// groups at most, the one that waits, and its own. With two groups' changes in place of three the standby waits for the next group now and then.
 pub(crate) const MOST_BEFORE_HEAVY: u64 = 3 * MAX_PARTS as u64;
 
 /// So many lines of 64 bytes a group takes at most that may be one of seventeen on the way, 520 KiB: with values of 4 KiB, 64 changes take fewer.
