@@ -2,6 +2,7 @@ mod SentFrames
 mod Serving
 mod Says
 mod JoinedFrames
+mod Copies
 mod Hearing
 mod FirstPieces
 mod SentRounds

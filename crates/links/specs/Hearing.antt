@@ -6,6 +6,7 @@ use Rattle.frames.specs.declared.ack.Ack.{Ack}
 use Rattle.stream_codec.specs.Message.{Sent, sent_of_frame, sent_of_ack}
 use Rattle.standby_stream.specs.Stream.{counts}
 use Rattle.wakes.specs.Waiting.{WakesDue}
+use Rattle.links.specs.Copies.{IsOfCopy}
 use Rattle.links.specs.Reading.{Reads}
 use Rattle.links.specs.declared.receiver.AckReceiver.{AckReceiver}
 use Rattle.links.specs.declared.standing.Standing.TheVariants.{Ahead, Behind}
@@ -32,10 +33,11 @@ pub record RefusesAck (old : AckReceiver) (ack : Ack) (new : AckReceiver) : Type
   pub foreign : counts old.epoch ack ≡ false → new.standing ≡ old.standing
   pub calls_none : new.due ≡ old.due
 
--- the same of a message, or it is a group, which only a primary sends
+-- the same of a message, or it is a group, which only a primary sends, or of a copy, which this node gives to nobody
 abbrev pub Refuses : AckReceiver → Sent → AckReceiver → Type 0
 Refuses old message new =
-    ((ack : Ack) × (message ≡ sent_of_ack ack) × RefusesAck old ack new) ⊎ ((frame : Frame) × (message ≡ sent_of_frame frame) × (new ≡ old))
+    ((ack : Ack) × (message ≡ sent_of_ack ack) × RefusesAck old ack new) ⊎ (((frame : Frame) × (message ≡ sent_of_frame frame) × (new ≡ old))
+    ⊎ (IsOfCopy message × (new ≡ old)))
 
 -- The receiver took these messages, in order, each of which is an acknowledgement, and did nothing else.
 pub data Hears : AckReceiver → List Sent → AckReceiver → Type 0 where

@@ -1,6 +1,7 @@
 pub mod Marking
 pub mod Sending
 pub mod Reading
+pub mod Copies
 pub mod Hearing
 pub mod Opening
 pub mod Serving

@@ -1,13 +1,14 @@
 //! The standby's side: one link at a time.
 ghost use Rattle.std.specs.Prelude.{◌≡◌, ◌↔◌, ℕ, List, [], ◌∷◌, OnOk, OnErr, Err, Ok, Option, None, Some, MatchOption, IfOk, IfErr, IfSome, IsErrOf};
 ghost use Rattle.std.specs.Io.KnownBytes.{Appends, Consumes};
-ghost use Rattle.kv_types.specs.declared.refusal.Refusal.TheVariants.{Fault, Memory};
+ghost use Rattle.kv_types.specs.declared.refusal.Refusal.TheVariants.{Fault, FrameFault, Memory};
 ghost use Rattle.stream_codec.specs.Message.{sent_of, sent_of_frame};
 ghost use Rattle.stream_codec.specs.Reading.{group_begun};
 ghost use Rattle.stream_codec.specs.Scanning.{sent_of_all};
 ghost use Rattle.stream_codec.specs.Stream.{fed};
 ghost use Rattle.frames.specs.declared.ack.Ack.{Ack as Told};
 ghost use Rattle.stream_codec.specs.declared.message.Message.TheVariants.{Ack as AckMessage};
+ghost use Rattle.links.specs.Copies.{IsOfCopy};
 ghost use Rattle.links.specs.Reading.{piece_of};
 ghost use Rattle.placing.specs.Fill.{fill_of};
 ghost use Rattle.standby.specs.Taking.{Stands};
@@ -310,7 +311,7 @@ fn answer_all<E: Durable, K: Keyspace, O: Write>(
 }
 
 /// Answers what came: a frame by its acknowledgement. An acknowledgement from the primary is
-/// refused, with nothing changed: `PositionGap` where it is of the node's epoch, else `WrongEpoch`.
+/// refused, with nothing changed: `PositionGap` where it is of the node's epoch, else `WrongEpoch`. So is what is of a copy, by `FrameFault`: this node takes none.
 fn answer<E: Durable, K: Keyspace, O: Write>(
     alloc: Global,
     node: &mut Standby<E, K>,
@@ -328,10 +329,14 @@ fn answer<E: Durable, K: Keyspace, O: Write>(
         (held (E.contents node.new.engine) (K.table node.new.keyspace)) (O.contents to.new) part × (¬ IsErrOf result Closed → part ≡ [])) }
     ensures misplaced { (ack : Told) → message ≡ AckMessage ack
         → (result ≡ Err (Refused (refusal_of_ack (E.contents node.old.engine).current.epoch ack))) × (node.new ≡ node.old) × (to.new ≡ to.old) }
+    ensures of_copy { IsOfCopy (sent_of message) → (result ≡ Err (Refused FrameFault)) × (node.new ≡ node.old) × (to.new ≡ to.old) }
 {
     match message {
         Message::Group(frame) => answer_frame(alloc, node, frame, out, to),
         Message::Ack(ack) => Err(LinkError::Refused(refusal_of_ack(node.epoch(), &ack))),
+        Message::CopyWanted(_) | Message::CopyPart(_) | Message::CopyEnd(_) => {
+            Err(LinkError::Refused(Refusal::FrameFault))
+        }
     }
 }
 

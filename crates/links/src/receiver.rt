@@ -44,6 +44,7 @@ impl AckReceiver {
     ghost use Rattle.stream_codec.specs.Message.{sent_of, sent_of_ack};
     ghost use Rattle.stream_codec.specs.Scanning.{sent_of_all};
     ghost use Rattle.standby_stream.specs.Stream.{counts};
+    ghost use Rattle.links.specs.Copies.{IsOfCopy};
     ghost use Rattle.links.specs.Hearing.{HasHeard, HasHeardBehind, Hears, Refuses, RefusesAck, StopsAt, Takes};
     ghost use Rattle.links.specs.Marking.{StaysFinal};
     ghost use Rattle.wakes.specs.Waiting.{WakesDue};
@@ -138,20 +139,24 @@ impl AckReceiver {
         Ok(())
     }
 
-    /// Takes an acknowledgement. Nothing else comes from a standby.
+    /// Takes an acknowledgement. Nothing else comes from a standby, and nothing else changes anything.
     ///
     /// # Errors
     ///
-    /// Those of `hear`, and `FrameFault` for a group, which only a primary sends.
+    /// Those of `hear`, and `FrameFault` for a group, which only a primary sends, and for what is of a copy, which this node gives to nobody.
     fn hear_message(&mut self, message: &Message) -> Result<(), Refusal>
         ensures epoch { self.new.epoch ≡ self.old.epoch }
         ensures stays { StaysFinal self.old self.new }
         ensures taken { OnOk result ((ack : Told) × (sent_of message.now ≡ sent_of_ack ack) × Takes self.old ack self.new) }
         ensures refused { OnErr result (Refuses self.old (sent_of message.now) self.new) }
+        ensures of_copy { IsOfCopy (sent_of message.now) → (result ≡ Err FrameFault) × (self.new ≡ self.old) }
     {
         match message {
             Message::Ack(ack) => self.hear(*ack),
             Message::Group(_) => Err(Refusal::FrameFault),
+            Message::CopyWanted(_) | Message::CopyPart(_) | Message::CopyEnd(_) => {
+                Err(Refusal::FrameFault)
+            }
         }
     }
 
