@@ -2,3 +2,4 @@ pub mod Following
 pub mod Taking
 pub mod Moving
 pub mod Spare
+pub mod Copies

@@ -2,6 +2,7 @@
 #![tactic(auto)]
 
 mod beside;
+mod copies;
 mod idle;
 mod joining;
 mod laws;
@@ -10,12 +11,15 @@ mod opening;
 mod part;
 mod planning;
 mod restarting;
+mod rising;
 mod room;
 mod spare;
 mod standby;
 mod taking;
 
+pub use copies::{EndStep, Half, PartStep, end_step, part_step};
 pub use laws::joined_frames_are_taken_in_turn;
 pub use opening::open;
+pub use rising::are_rising;
 pub use spare::SPARE_LINES;
 pub use standby::Standby;
