@@ -18,3 +18,7 @@ pub mod ClearingLemmas
 pub mod MovingLemmas
 pub mod IdleLemmas
 pub mod JoiningLemmas
+pub mod CopiesLemmas
+pub mod PutsAlone
+pub mod GatheringLemmas
+pub mod CopyOutcomes

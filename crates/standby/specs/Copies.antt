@@ -1,5 +1,7 @@
 -- What a newcomer does with the frames of a copy, by how far it has come with one.
-use Rattle.std.specs.Prelude.{◌≡◌, ◌≢◌, ◌⊎◌, ℕ, ◌<◌, ◌≤◌, List, [], ◌∷◌, Option, None, Some}
+use Rattle.std.specs.Prelude.{◌≡◌, ◌≢◌, ◌⊎◌, ℕ, ◌<◌, ◌≤◌, List, [], ◌∷◌, map, Option, None, Some}
+use Rattle.kv_types.specs.declared.change.Change.{Change}
+use Rattle.kv_types.specs.declared.change.Change.TheVariants as change
 use Rattle.kv_types.specs.declared.record_id.RecordId.{RecordId}
 use Rattle.wbl_engine.specs.Copying.{Follows}
 use Rattle.standby.specs.declared.copies.Half.{Half}
@@ -51,3 +53,20 @@ IsEndStep half position parts end.Misplaced = (¬ HasAll half position parts) ×
 abbrev pub Rise : Option RecordId → List (RecordId × List ℕ) → Type 0
 Rise last [] = Unit {0}
 Rise last (put ∷ puts) = Follows last put.0 × Rise (Some put.0) puts
+
+-- the record of the last put, or this one where there is none
+abbrev pub last_told : Option RecordId → List (RecordId × List ℕ) → Option RecordId
+last_told last [] = last
+last_told last (put ∷ puts) = last_told (Some put.0) puts
+
+-- the last record of the half copy, if it has one
+abbrev pub last_of : Option Half → Option RecordId
+last_of None = None
+last_of (Some half) = half.last
+
+-- the puts as changes
+abbrev pub change_told : RecordId × List ℕ → Change
+change_told put = change.Put put.0 put.1
+
+abbrev pub changes_told : List (RecordId × List ℕ) → List Change
+changes_told = map change_told

@@ -3,3 +3,5 @@ pub mod Taking
 pub mod Moving
 pub mod Spare
 pub mod Copies
+pub mod Gathering
+pub mod Newcomers

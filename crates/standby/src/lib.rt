@@ -1,12 +1,14 @@
 //! The standby: whole frames move its image, and what it acknowledges is durable.
 #![tactic(auto)]
 
+mod adding;
 mod beside;
 mod copies;
 mod idle;
 mod joining;
 mod laws;
 mod moving;
+mod newcomer;
 mod opening;
 mod part;
 mod planning;
@@ -19,6 +21,7 @@ mod taking;
 
 pub use copies::{EndStep, Half, PartStep, end_step, part_step};
 pub use laws::joined_frames_are_taken_in_turn;
+pub use newcomer::Newcomer;
 pub use opening::open;
 pub use rising::are_rising;
 pub use spare::SPARE_LINES;
