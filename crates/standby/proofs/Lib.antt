@@ -22,3 +22,4 @@ pub mod CopiesLemmas
 pub mod PutsAlone
 pub mod GatheringLemmas
 pub mod CopyOutcomes
+pub mod DroppedHalf

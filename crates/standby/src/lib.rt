@@ -4,6 +4,8 @@
 mod adding;
 mod beside;
 mod copies;
+mod dropping;
+mod ending;
 mod idle;
 mod joining;
 mod laws;
