@@ -72,10 +72,11 @@ all_puts [] [] e = (refl, refl)
 all_puts [] (t ∷ told) e = absurd (false≢true (ap is_any e))
 all_puts (c ∷ changes) [] e = absurd (true≢false (ap is_any e))
 all_puts (placed.Put put ∷ changes) (t ∷ told) e =
-    let rest = all_puts changes told (ap rest_of e) in
-    (ap (λ (cs : List PlacedChange). placed.Put put ∷ cs) rest.0,
+    let rest = all_puts changes told (ap rest_of e) in (
+      ap (λ (cs : List PlacedChange). placed.Put put ∷ cs) rest.0,
       ap₂ (λ (x : RecordId × List ℕ) (xs : List (RecordId × List ℕ)). x ∷ xs)
-      (ap₂ (λ (a : RecordId) (b : List ℕ). (a, b)) (ap (first_id put.id) e) (ap first_value e)) rest.1)
+          (ap₂ (λ (a : RecordId) (b : List ℕ). (a, b)) (ap (first_id put.id) e) (ap first_value e)) rest.1,
+    )
 all_puts (placed.Drop id ∷ changes) (t ∷ told) e = absurd (false≢true (ap begins_put e))
 all_puts (placed.DropKey key ∷ changes) (t ∷ told) e = absurd (false≢true (ap begins_put e))
 all_puts (placed.Clear ∷ changes) (t ∷ told) e = absurd (false≢true (ap begins_put e))

@@ -1,5 +1,5 @@
 -- What the calls of a newcomer come to, by how they end.
-use Rattle.std.proofs.Common.{◌≡◌, ℕ, ◌+◌, ◌<◌, ◌⊎◌, inl, inr, Bool, true, false, List, [], Option, None, Some, Ok, Err, Result, refl, sym, ap, subst, ◌∙◌}
+use Rattle.std.proofs.Common.{◌≡◌, ◌⊎◌, inl, inr, Bool, Ok, Err, Result, sym, ap, subst, ◌∙◌}
 use Rattle.kv_types.specs.declared.refusal.Refusal.{Refusal}
 use Rattle.kv_types.specs.declared.refusal.Refusal.TheVariants.{Fault, Full, Memory}
 use Rattle.pmem.specs.Device.{State}
@@ -12,7 +12,7 @@ use Rattle.wbl_engine.specs.Contents.{IsDurable, Keeps}
 use Rattle.frames.specs.declared.copy.CopyPart.{CopyPart}
 use Rattle.standby.specs.declared.newcomer.Newcomer.{Newcomer}
 use Rattle.standby.specs.Copies.{changes_told}
-use Rattle.standby.specs.Newcomers.{Adds, AddsPart, BreaksCopy, Clears, IsCleared, StaysAsItWas}
+use Rattle.standby.specs.Newcomers.{Adds, AddsPart, BreaksCopy, StaysAsItWas}
 
 abbrev err_of : Refusal → Result (Unit {0}) Refusal
 err_of x = Err x

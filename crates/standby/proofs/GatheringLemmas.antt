@@ -1,36 +1,33 @@
 -- What a newcomer gathers stays a copy while parts go on with it, goes back to the heap where it is dropped, and is what a standby follows once it counts.
-use Rattle.std.proofs.Common.{◌≡◌, ◌≢◌, ℕ, ◌+◌, ◌<◌, ◌≤◌, ◌||◌, ◌&&◌, Bool, true, false, not, cond, IsTrue, List, [], ◌∷◌, ◌++◌, map, length, nat_eq, Option, Some, None, inl, inr, refl, sym, ap, ap₂, subst, ◌∙◌, arith, eq-eqb, eqb-true}
-use Rattle.std.proofs.lemmas.Bool.{and_from, and_parts, cases_Bool, cond-false, cond-true, false_from_ne_true, or_cases, true≢false}
-use Rattle.std.proofs.lemmas.List.{append-nil}
+use Rattle.std.proofs.Common.{◌≡◌, ℕ, ◌+◌, ◌<◌, ◌≤◌, false, IsTrue, List, [], ◌∷◌, map, length, nat_eq, Option, Some, None, inl, inr, refl, sym, ap, subst, ◌∙◌, arith, eqb-true}
+use Rattle.std.proofs.lemmas.Bool.{and_from, and_parts, cases_Bool, cond-false, cond-true, or_cases, true≢false}
 use Rattle.std.proofs.lemmas.Option.{none-some}
 use Rattle.std.specs.Prelude.{is_none}
 use Rattle.std.specs.List.{AllByRecursion}
-use Rattle.kv_types.specs.declared.place.EntryNo.{EntryNo}
-use Rattle.kv_types.specs.declared.place.Extent.{Extent}
 use Rattle.kv_types.specs.declared.record_id.RecordId.{RecordId}
 use Rattle.extent_heap.specs.Room.{Room}
 use Rattle.model.specs.declared.group.PlacedChange.{PlacedChange}
 use Rattle.model.specs.declared.group.PlacedChange.TheVariants as placed
 use Rattle.model.specs.declared.group.Put.{Put}
-use Rattle.model.specs.Group.{AreAllApart, AreEnded, Contents, IsPlaced, IsUnused, Versions, changes_versions, entries_of, is_ended_version, is_listed, is_put_at, version_of_put, with_puts}
+use Rattle.model.specs.Group.{Contents, IsPlaced, IsUnused, Versions, changes_versions, entries_of, is_ended_version, is_put_at, version_of_put, with_puts}
 use Rattle.model.specs.Image.{Version, first_extent_line}
-use Rattle.mv_keyspace.specs.Table.{IsTable, Table, place_all, puts_of}
-use Rattle.mv_keyspace.proofs.PartTables.{AreDistinct, IsTable-changes, table-none, with_puts-other}
+use Rattle.mv_keyspace.specs.Table.{IsTable, Table, puts_of}
+use Rattle.mv_keyspace.proofs.PartTables.{AreDistinct, IsTable-changes, with_puts-other}
 use Rattle.mv_keyspace.proofs.VersionTables.{AreEmpty}
-use Rattle.placing.specs.Back.{CanGiveAll, ComesBack, GivesAll, HasOut, has_version}
+use Rattle.placing.specs.Back.{HasOut}
 use Rattle.placing.specs.Left.{HasNoFreeLine, IsLeftOf, IsTaken}
 use Rattle.placing.specs.Read.{LiesIn}
-use Rattle.placing.proofs.CountLemmas.{AreBelow, changes_counted, none_counted}
+use Rattle.placing.proofs.CountLemmas.{AreBelow, changes_counted}
 use Rattle.placing.proofs.LeftLemmas.{HasGood, good_changes, placed_of_free, unused_of_free}
 use Rattle.placing.proofs.TakenLemmas.{All-map, AreDistinct-from_apart, IsFree, lines_within, not_put_at}
 use Rattle.wbl_engine.specs.Contents.{Same}
-use Rattle.wbl_engine.specs.Copying.{AreRising, AreStageable, AreUpTo, IsCopied, IsCopy, after_copy, is_unstaged, last_record}
+use Rattle.wbl_engine.specs.Copying.{AreRising, AreStageable, AreUpTo, IsCopy, after_copy, is_unstaged, last_record}
 use Rattle.wbl_engine.proofs.CopyLaws.{copy_consistent, more_copy}
 use Rattle.wbl_engine.proofs.RisingLemmas.{rising_distinct, rising_fresh, rising_up_to}
 use Rattle.standby.specs.declared.copies.Half.{Half}
 use Rattle.standby.specs.Copies.{Rise, last_of, last_told}
 use Rattle.standby.specs.Following.{Follows}
-use Rattle.standby.specs.Gathering.{AreOfHalf, Gathers, IsAt, PlacesPuts, told_of}
+use Rattle.standby.specs.Gathering.{AreOfHalf, Gathers, IsAt, PlacesPuts}
 use Rattle.standby.proofs.CopiesLemmas.{last_placed, puts_back, rising}
 use Rattle.standby.proofs.EndedLemmas.{Same-is}
 use Rattle.standby.proofs.PlacesTaken.{AreTaken, AreTaken-places}
@@ -70,7 +67,7 @@ at_position position (put ∷ puts) versions before i version is =
     elim (cases_Bool (nat_eq i put.entry.0)) [
       | inl here ↦
           let both : Some version ≡ Some (version_of_put position put) =
-              sym is ∙ cond-true (nat_eq i put.entry.0) (Some (version_of_put position put)) (with_puts position puts versions i) here in
+          sym is ∙ cond-true (nat_eq i put.entry.0) (Some (version_of_put position put)) (with_puts position puts versions i) here in
           let same : version ≡ version_of_put position put = cc in
           ap (λ (v : Version). v.position) same
       | inr other ↦
@@ -210,16 +207,16 @@ module _ (contents : Contents) (staged : Versions) (table : Table) (room : Room)
     -- the newcomer has it then
     pub Gathers-more : Gathers contents' staged' after left (Some (record { position = position; parts = parts; last = last_told (last_of half) told }))
     Gathers-more =
-      subst (λ (k : Contents). Gathers k staged' after left (Some (record { position = position; parts = parts; last = last_told (last_of half) told }))) (sym (Same-is contents contents' same)) (record {
-      newcomer = gathers.newcomer;
-      empty = gathers.empty;
-      of_half = (
-        some,
-        λ i version is. at_position position puts staged (made_at_half half staged position gathers.of_half at) i version (sym (made i) ∙ is),
-        subst (λ (last : Option RecordId). AreUpTo last staged') last_is (rising_up_to (last_of half) staged staged' puts position up_to rises made),
-      );
-      copy = copy';
-      is_free = is_free';
-      placed = placed';
-      follows = follows';
-    })
+        subst (λ (k : Contents). Gathers k staged' after left (Some (record { position = position; parts = parts; last = last_told (last_of half) told }))) (sym (Same-is contents contents' same)) (record {
+          newcomer = gathers.newcomer;
+          empty = gathers.empty;
+          of_half = (
+            some,
+            λ i version is. at_position position puts staged (made_at_half half staged position gathers.of_half at) i version (sym (made i) ∙ is),
+            subst (λ (last : Option RecordId). AreUpTo last staged') last_is (rising_up_to (last_of half) staged staged' puts position up_to rises made),
+          );
+          copy = copy';
+          is_free = is_free';
+          placed = placed';
+          follows = follows';
+        })

@@ -23,3 +23,4 @@ pub mod PutsAlone
 pub mod GatheringLemmas
 pub mod CopyOutcomes
 pub mod DroppedHalf
+pub mod ClearOutcomes

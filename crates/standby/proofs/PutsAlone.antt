@@ -13,7 +13,7 @@ use Rattle.kv_types.proofs.LookUpLemmas.{is_same, is_same_key}
 use Rattle.kv_types.proofs.OrderLemmas.{key_itself, record_itself, same_record}
 use Rattle.model.specs.declared.group.PlacedChange.TheVariants as placed
 use Rattle.model.specs.declared.group.Put.{Put}
-use Rattle.model.specs.Group.{AreAllApart, IsApartFrom, Versions, change_versions, changes_versions, ended_by, ended_where_begun, ends_record, version_of_put, with_puts}
+use Rattle.model.specs.Group.{AreAllApart, IsApartFrom, Versions, change_versions, changes_versions, ended_where_begun, ends_record, version_of_put, with_puts}
 use Rattle.model.specs.Image.{Version}
 use Rattle.model.specs.ReadImage.{is_clash}
 use Rattle.wbl_engine.specs.Copying.{AreAllDistinct, IsFresh}
@@ -96,8 +96,8 @@ pub puts_alone : (position : ℕ) (versions : Versions) (puts : List Put) → Al
 puts_alone position versions [] fresh distinct apart i = refl
 puts_alone position versions (put ∷ puts) fresh distinct apart i =
     let first : change_versions position versions (placed.Put put) ≡ with_puts position (put ∷ []) versions =
-        ap (λ (vs : Versions). with_puts position (put ∷ []) vs) (same_versions (λ j. ended_where_begun (change.Put put.id put.value) (versions j)) versions
-        (λ j. kept (change.Put put.id put.value) (versions j) (λ version is. spared put.id version.id put.value (fresh.0 j version is)))) in
+    ap (λ (vs : Versions). with_puts position (put ∷ []) vs) (same_versions (λ j. ended_where_begun (change.Put put.id put.value) (versions j)) versions
+    (λ j. kept (change.Put put.id put.value) (versions j) (λ version is. spared put.id version.id put.value (fresh.0 j version is)))) in
     ap (λ (made : Versions). changes_versions position made (map placed.Put puts) i) first
     ∙ puts_alone position (with_puts position (put ∷ []) versions) puts (fresh_beside position put puts versions fresh.1 distinct.0) distinct.1 apart.1 i
     ∙ over position put puts versions apart.0 i

@@ -58,10 +58,7 @@ impl<E: Durable, K: Keyspace + Drop> Newcomer<E, K> {
 /// # Errors
 ///
 /// Only `Memory`.
-fn last_after(
-    half: &Option<Half>,
-    puts: &[(RecordId, Value)],
-) -> Result<Option<RecordId>, Refusal>
+fn last_after(half: &Option<Half>, puts: &[(RecordId, Value)]) -> Result<Option<RecordId>, Refusal>
     ensures after { IfOk result (λ after. after ≡ last_told (last_of half.now) puts.now) }
     ensures cause { IfErr result (λ cause. cause ≡ refusal.Memory) }
 {

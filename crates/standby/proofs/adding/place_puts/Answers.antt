@@ -6,7 +6,6 @@ use Rattle.mv_keyspace.specs.Table.{place_all, puts_of}
 use Rattle.standby.specs.Copies.{changes_told}
 use Rattle.standby.specs.Gathering.{PlacesPuts}
 use Rattle.standby.proofs.CopiesLemmas.{all_puts, as_many}
-use Rattle.standby.proofs.adding.place_puts.Given.{Over}
 use Rattle.standby.proofs.adding.place_puts.Goals as goal
 
 pub perform-requires : goal.perform-requires
@@ -27,9 +26,9 @@ returns-clause-ok g c =
     let told : map change_of ok.places.placed ≡ changes_told c.args.puts.items = ok.places.changes_are ∙ c.in_ok-changes.ensures in
     let both = all_puts ok.places.placed c.args.puts.items told in
     let puts_are : c.move_puts.new.placed.items ≡ puts_of ok.places.placed =
-        c.move_puts.ensures
-        ∙ ap₂ (λ (before : List Put) (changes : List PlacedChange). before ++ puts_of changes) c.in_ok-placed.ensures.items
-        (ok.places.after_is ∙ ap (λ (before : List PlacedChange). before ++ ok.places.placed) c.empty_part-part.ensures.changes) in
+    c.move_puts.ensures
+    ∙ ap₂ (λ (before : List Put) (changes : List PlacedChange). before ++ puts_of changes) c.in_ok-placed.ensures.items
+    (ok.places.after_is ∙ ap (λ (before : List PlacedChange). before ++ ok.places.placed) c.empty_part-part.ensures.changes) in
     subst (λ (puts : List Put). PlacesPuts (g.K.Keyspace.table c.args.keyspace.now) c.args.heap.now c.args.position c.args.puts.items puts (g.K.Keyspace.table c.perform.new.keyspace) c.perform.new.heap)
     (sym puts_are)
     (record {

@@ -1,20 +1,15 @@
-use Rattle.std.proofs.Common.{◌≡◌, ℕ, ◌+◌, List, Option, Some, inl, inr, Ok, Err, refl, sym, ap, ap₂, subst, ◌∙◌, arith}
+use Rattle.std.proofs.Common.{◌+◌, List, Option, Some, Err, refl, sym, ap, subst, ◌∙◌, arith}
 use Rattle.std.proofs.lemmas.Result.{err_from_is_err_and}
 use Rattle.kv_types.specs.declared.record_id.RecordId.{RecordId}
 use Rattle.model.specs.declared.group.Put.{Put}
 use Rattle.model.specs.Group.{with_puts}
-use Rattle.mv_keyspace.specs.Table.{records}
-use Rattle.mv_keyspace.proofs.TableLemmas.{records-place_all}
-use Rattle.kv_types.specs.Keyspace.{play_all}
 use Rattle.wbl_engine.specs.Copying.{AreStageable}
-use Rattle.standby.specs.declared.copies.Half.{Half}
 use Rattle.standby.specs.Copies.{last_of, last_told}
 use Rattle.standby.specs.Gathering.{Gathers}
 use Rattle.standby.proofs.ClearingLemmas.{failed_now}
 use Rattle.standby.proofs.CopiesLemmas.{told_changes}
 use Rattle.standby.proofs.CopyOutcomes.{Adds-broken, Adds-done, Adds-left, Adds-memory}
 use Rattle.standby.proofs.GatheringLemmas.{Gathers-more, stageable}
-use Rattle.standby.proofs.newcomer.Newcomer.add_part.Given.{Over}
 use Rattle.standby.proofs.newcomer.Newcomer.add_part.Goals as goal
 
 pub place_puts-requires : goal.place_puts-requires
@@ -68,10 +63,10 @@ returns g c =
     let node = c.args.self.now in
     let last_is = c.in_ok-last.ensures.after ∙ ap (last_told (last_of node.half)) c.deref.ensures.value in
     let gathers = Gathers-more (g.E.Durable.contents node.engine) (g.E.Durable.staged node.engine) (g.K.Keyspace.table node.keyspace) node.heap node.half
-        c.requires.awaits.gathers c.args.part.position c.requires.half c.args.part.puts.items c.requires.rising c.in_ok-puts.puts.items (g.K.Keyspace.table c.place_puts.new.keyspace) c.place_puts.new.heap
-        c.in_ok-puts.ensures.ok (g.E.Durable.contents c.stage.new.self) told.stays (g.E.Durable.staged c.stage.new.self)
-        (λ i. told.staged i ∙ ap (λ (puts : List Put). with_puts c.args.part.position puts (g.E.Durable.staged node.engine) i) c.deref-2.ensures.value)
-        (c.args.part.number + 1) (omega arith) in
+    c.requires.awaits.gathers c.args.part.position c.requires.half c.args.part.puts.items c.requires.rising c.in_ok-puts.puts.items (g.K.Keyspace.table c.place_puts.new.keyspace) c.place_puts.new.heap
+    c.in_ok-puts.ensures.ok (g.E.Durable.contents c.stage.new.self) told.stays (g.E.Durable.staged c.stage.new.self)
+    (λ i. told.staged i ∙ ap (λ (puts : List Put). with_puts c.args.part.position puts (g.E.Durable.staged node.engine) i) c.deref-2.ensures.value)
+    (c.args.part.number + 1) (omega arith) in
     let half_is = ap (λ (last : Option RecordId). Some (record { position = c.args.part.position; parts = c.args.part.number + 1; last = last })) last_is in
     Adds-done g.E.Durable.device g.E.Durable.contents g.E.Durable.is_faulted g.E.Durable.staged g.K.Keyspace.table c.args.part node _ tt
     (record {
