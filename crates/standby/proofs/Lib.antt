@@ -24,3 +24,6 @@ pub mod GatheringLemmas
 pub mod CopyOutcomes
 pub mod DroppedHalf
 pub mod ClearOutcomes
+pub mod CopyRests
+pub mod EndOutcomes
+pub mod StepLemmas

@@ -1,6 +1,7 @@
 //! How a copy ends, and the newcomer is a standby.
 ghost use Rattle.std.specs.Prelude.{◌≡◌, ◌↔◌, [], IsTrue};
 ghost use Rattle.wbl_engine.specs.Copying.{ExhaustsCopy};
+ghost use Rattle.standby.specs.Copies.{HasAll};
 ghost use Rattle.standby.specs.Gathering.{IsAt};
 ghost use Rattle.standby.specs.Newcomers.{AwaitsCopy, Completes, EndsCopy, HasCopy};
 ghost use Rattle.standby.specs.Taking.{Stands};
@@ -33,16 +34,46 @@ impl<E: Durable, K: Keyspace + Drop> Newcomer<E, K> {
         if end.epoch != self.epoch() {
             return Err(Refusal::WrongEpoch);
         }
-        let step = end_step(&self.half, end.position, end.parts);
-        if step == EndStep::Misplaced {
-            return Err(Refusal::PositionGap);
+        match end_step(&self.half, end.position, end.parts) {
+            EndStep::Completes => self.end_whole(end),
+            EndStep::Empties => self.end_empty(alloc, end),
+            EndStep::Misplaced => Err(Refusal::PositionGap),
         }
+    }
+
+    /// Ends the copy of which it has all the parts.
+    ///
+    /// # Errors
+    ///
+    /// `Exhausted` and `Fault`, as at `end_copy`.
+    fn end_whole(&mut self, end: CopyEnd) -> Result<Ack, Refusal>
+        requires awaits { AwaitsCopy E.device E.contents E.is_faulted E.staged K.table self.old }
+        requires own { end.epoch ≡ (E.contents self.old.engine).current.epoch }
+        requires all { HasAll self.old.half end.position end.parts }
+        ensures { EndsCopy E.device E.contents E.is_faulted E.staged K.table end self.old result self.new }
+    {
         if exhausts_copy(self.engine.record(), end.position) {
             return Err(Refusal::Exhausted);
         }
-        if step == EndStep::Empties {
-            self.drop_half(alloc)?;
+        self.complete(end.position)?;
+        Ok(Ack::of_engine(&self.engine))
+    }
+
+    /// Ends a copy of 0 parts.
+    ///
+    /// # Errors
+    ///
+    /// `Exhausted`, `Memory` and `Fault`, as at `end_copy`.
+    fn end_empty(&mut self, alloc: Global, end: CopyEnd) -> Result<Ack, Refusal>
+        requires awaits { AwaitsCopy E.device E.contents E.is_faulted E.staged K.table self.old }
+        requires own { end.epoch ≡ (E.contents self.old.engine).current.epoch }
+        requires none { end.parts ≡ 0 }
+        ensures { EndsCopy E.device E.contents E.is_faulted E.staged K.table end self.old result self.new }
+    {
+        if exhausts_copy(self.engine.record(), end.position) {
+            return Err(Refusal::Exhausted);
         }
+        self.drop_half(alloc)?;
         self.complete(end.position)?;
         Ok(Ack::of_engine(&self.engine))
     }
