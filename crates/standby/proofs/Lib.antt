@@ -26,4 +26,5 @@ pub mod DroppedHalf
 pub mod ClearOutcomes
 pub mod CopyRests
 pub mod EndOutcomes
+pub mod PartOutcomes
 pub mod StepLemmas
