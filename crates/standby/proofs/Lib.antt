@@ -28,3 +28,4 @@ pub mod CopyRests
 pub mod EndOutcomes
 pub mod PartOutcomes
 pub mod StepLemmas
+pub mod OpenedNewcomer

@@ -2,6 +2,7 @@
 #![tactic(auto)]
 
 mod adding;
+mod beginning;
 mod beside;
 mod copies;
 mod dropping;
@@ -21,6 +22,7 @@ mod spare;
 mod standby;
 mod taking;
 
+pub use beginning::open_newcomer;
 pub use copies::{EndStep, Half, PartStep, end_step, part_step};
 pub use laws::joined_frames_are_taken_in_turn;
 pub use newcomer::Newcomer;
