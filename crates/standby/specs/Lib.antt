@@ -2,3 +2,6 @@ pub mod Following
 pub mod Taking
 pub mod Moving
 pub mod Spare
+pub mod Copies
+pub mod Gathering
+pub mod Newcomers
