@@ -4,6 +4,7 @@
 mod adding;
 mod beginning;
 mod beside;
+mod copied;
 mod copies;
 mod dropping;
 mod ending;
