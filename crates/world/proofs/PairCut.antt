@@ -53,7 +53,7 @@ none-between call inside is = true≢false (ap is_between (sym is) ∙ inside)
 
 -- ---- the primary
 
--- The sessions ended, and the list keeps the calls up to where the image stands.
+-- The clients' connections ended, and the list keeps the calls up to where the image stands.
 abbrev pub EndsThere : State → Clients → Clients → Type 0
 EndsThere device old new =
     (r : Record) → MIN_LINES ≤ device.lines → device.lines ≤ MAX_LINES → IsUndamaged device.lines r (image_of device.words) → (machines : List Connection) (list : List Call) → ClientsRefine old machines list
