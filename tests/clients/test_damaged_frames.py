@@ -29,7 +29,7 @@ def acknowledged(epoch, position, data):
     the link."""
     count = 1
     for _, message in read_stream(data)[0]:
-        if isinstance(message, Acknowledgement) or message.epoch != epoch or message.after > position:
+        if not isinstance(message, Group) or message.epoch != epoch or message.after > position:
             break
         count += 1
     return count * text(Acknowledgement(epoch, position))
@@ -113,8 +113,8 @@ class Damaged(StandingBy):
     def test_the_first_byte_that_no_frame_has(self):
         """The page and the plain reader agree on where a fault is."""
         for at, byte, fault in [
-            (0, 0, 1), (0, 3, 1), (24, 0, 25), (25, 1, 26), (27, 2, 28), (32, 1, 34), (33, 7, 34), (33, 6, 35), (33, 2, 36), (34, 1, 35),
-            (35, 3, 36), (37, 1, 38), (40, 2, 41), (41, 50, None),
+            (0, 0, 1), (0, 6, 1), (0, 3, 10), (0, 5, 26), (24, 0, 25), (25, 1, 26), (27, 2, 28), (32, 1, 34), (33, 7, 34), (33, 6, 35),
+            (33, 2, 36), (34, 1, 35), (35, 3, 36), (37, 1, 38), (40, 2, 41), (41, 50, None),
         ]:
             with self.case(f"byte {byte} at {at}"):
                 self.assertEqual(read_stream(written(SET_A, at, byte, 1))[1], fault)

@@ -76,7 +76,7 @@ class Scripts(PairCases):
 
     def assert_is_done(self):
         self.assertEqual([inspected(self.folder / "b.img")[it] for it in ("role", "position", "epoch")], ["primary", 3, 2])
-        self.assertEqual([inspected(self.folder / "a.img")[it] for it in ("role", "position")], ["standby", 0])
+        self.assertEqual([inspected(self.folder / "a.img")[it] for it in ("role", "position", "epoch")], ["newcomer", 0, 2])
         self.assertEqual((self.folder / "a.img").stat().st_size, NEW_BYTES)
 
 
@@ -148,7 +148,7 @@ class Images(Scripts):
 
 
 class New(Scripts):
-    """What becomes of a file that is there in the place of the new standby's image: none is written over."""
+    """What becomes of a file that is there in the place of the newcomer's image: none is written over."""
 
     def setUp(self):
         super().setUp()
@@ -173,7 +173,7 @@ class New(Scripts):
                 self.assert_done(PROMOTED, *([] if data else ["a.img was there, and is a.img.old"]), FORMATTED)
 
     def formatted(self, name):
-        self.shell.run(f"bin/wbl-server format --image {name} --lines {LINES + MORE_LINES} --role standby --journal 0 --new")
+        self.shell.run(f"bin/wbl-server format --image {name} --lines {LINES + MORE_LINES} --role newcomer --epoch 2 --journal 0 --new")
         return self.read(name)
 
     def test_one_with_a_journal(self):

@@ -45,7 +45,10 @@ class Procedures(Operated):
         self.check("The process of the standby", kills=["b.img"])
 
     def test_a_lost_standby(self):
+        """The primary is not started again."""
+        process = self.process("a.img")
         printed = self.check("A lost standby", loses=["b.img"])
+        self.assertEqual(self.process("a.img"), process)
         self.assertRegex(printed, r"\na\.img: primary, epoch 1, .*\nb\.img: standby, epoch 1, .*\nbehind: \d+\n")
 
     def test_a_standby_that_is_replaced(self):
@@ -54,8 +57,8 @@ class Procedures(Operated):
         old, new = (self.shell.run(f"bin/wbl-server status --image {name} | grep position") for name in ("b.img.old", "b.img"))
         self.assertLess(int(old.split()[1]), int(new.split()[1]))
 
-    def test_a_running_primary_fills_no_new_standby(self):
-        """What the page says of it: both logs, and that nothing is answered until the primary is started again."""
+    def test_a_standby_that_holds_nothing(self):
+        """In the place of one that did: both logs say so, and nothing is answered until a newcomer takes its place."""
         self.assertEqual(self.client().ask("SET", "a", "1"), OK)
         start = self.line("A lost standby", " standby ")
         self.lose("b.img")
@@ -66,7 +69,8 @@ class Procedures(Operated):
             wait_until(lambda: b": refusal 12: position gap\n" in self.log("a"), "the primary's word")
             wait_until(lambda: b": the standby lacks what this primary cannot send: " in self.log("a"), "the primary's word on what to do")
             self.assertTrue(client.is_silent(0.5))
-        self.do("A lost standby")
+            self.do("A lost standby")
+            self.assertEqual(client.reply(), OK)
         self.assertEqual(self.client().ask("GET", "a"), bulk(b"1"))
 
     def test_a_standby_of_another_pair(self):
@@ -155,7 +159,14 @@ class Procedures(Operated):
         return inspected(self.shell.folder / image)["role"]
 
     def test_a_larger_image(self):
-        self.check("A larger image", "A lost primary", port=SECOND)
+        """The two blocks that the page names, with more lines in the first."""
+        self.assertEqual(blocks_below(PAGE, "A larger image"), [])
+        load = Load(Page(self.shell, FIRST))
+        self.started(load)
+        (block,) = blocks_below(PAGE, "A lost standby")
+        self.shell.run(*(re.sub(r"--lines .* --role", "--lines 131072 --role", line) for line in block))
+        self.do("A lost primary")
+        self.ended(load, SECOND, "a larger image")
         self.assertRegex(self.shell.run("bin/wbl-status b.img a.img"), r"(?s)\Ab\.img: primary, epoch 2, .* of 16366 .*a\.img: standby, epoch 2, .* of 18709 ")
 
     def test_a_new_version(self):
@@ -185,7 +196,7 @@ class OtherPlace(Operated):
     def test_each_block(self):
         self.do("A lost primary")
         client, count = self.client(SECOND), 0
-        for heading in ("How far a pair was", "A lost standby", "Backup", "From one release to the next", "A larger image", "Images of releases up to 18"):
+        for heading in ("How far a pair was", "A lost standby", "Backup", "From one release to the next", "Images of releases up to 18"):
             with self.case("block", heading=heading):
                 self.assertEqual(client.ask("SET", "count", f"{count}"), OK)
                 self.do_exchanged(heading)

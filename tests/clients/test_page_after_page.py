@@ -39,8 +39,8 @@ def blocks():
 
 BLOCKS = blocks()
 BACKUP, RESTORE = "Backup 1", "Restore 1"
-# Those that change nothing, and so start nothing either.
-LOOKS = ["What to look at 1", "What to look at 2", "How far a pair was 1", "A standby of another pair 1"]
+# Those that start nothing: they look, or copy an image.
+LOOKS = [BACKUP, "What to look at 1", "What to look at 2", "How far a pair was 1", "A standby of another pair 1"]
 
 
 class After(Operated):

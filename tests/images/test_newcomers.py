@@ -8,13 +8,13 @@ import subprocess
 
 import common
 import plain_image
-from common import run_program
+from common import run_program, without_news
 from old_images import held
 from plain_device import Device
 from plain_image import BOUND, LAYOUT, NEWCOMER, PRIMARY, STANDBY, VERSION_1, Words, extents_begin
 from plain_keyspace import Put
 from plain_writer import Writer
-from standby_node import NOWHERE
+from standby_node import CANNOT_LISTEN, NOWHERE
 from test_images import DONE, FAILED, LINE_BYTES, LINES, MISUSED, Images, format_words, image_bytes, told, told_of, words_of
 from test_losing import KEPT, AtTerminal, holding, promote_words
 from test_migrating import MIGRATED, migrate_words, migrated_record
@@ -32,6 +32,13 @@ def newcomer_words(path, epoch, lines=LINES):
 
 def new(epoch=1, lines=LINES, **options):
     return Writer(lines, NEWCOMER, epoch=epoch, **options)
+
+
+def open_again(writer):
+    """As the node of a newcomer does: it leaves no gap."""
+    writer.reopen()
+    while writer.record.gaps:
+        writer.room.give(writer.clear_gap())
 
 
 class Newcomers(Images):
@@ -134,6 +141,19 @@ class Telling(Newcomers):
                 self.assertEqual(ran.returncode, status)
 
 
+class Opening(Newcomers):
+    def test_a_standby(self):
+        """It is opened as any image is, and then its gaps are cleared, in which what it had of a copy lies."""
+        with self.folder() as folder:
+            for name, writer in [("new", new(2)), ("with half a copy", half()), ("with half a copy in a gap", reopened_half())]:
+                with self.case(name):
+                    path = self.made(folder, writer.words)
+                    open_again(writer)
+                    finished = self.run_words(["standby", "--image", str(path), "--listen", NOWHERE])
+                    self.assertEqual((finished.status, finished.output, without_news(finished.errors)), (FAILED, b"", CANNOT_LISTEN))
+                    self.assertEqual(words_of(path.read_bytes()), writer.words)
+
+
 class Refusals(Newcomers):
     """Whatever is refused, the image stays as it was."""
 
@@ -142,13 +162,6 @@ class Refusals(Newcomers):
             path = self.made(folder, new(2).words)
             words = ["primary", "--image", str(path), "--listen", NOWHERE, "--link", NOWHERE]
             self.assert_untouched(words, path, 16, b"is an image of the other role")
-
-    def test_a_standby(self):
-        with self.folder() as folder:
-            for name, writer in [("new", new(2)), ("with half a copy", half()), ("with half a copy in a gap", reopened_half())]:
-                with self.case(name):
-                    path = self.made(folder, writer.words)
-                    self.assert_untouched(["standby", "--image", str(path), "--listen", NOWHERE], path, 17, NOT_COPIED)
 
     def test_a_promotion(self):
         with self.folder() as folder:

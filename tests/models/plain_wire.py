@@ -4,13 +4,15 @@ import typing
 
 from plain_keyspace import Clear, Drop, DropKey, Put
 
-GROUP, ACKNOWLEDGEMENT, GREETING = 1, 2, 8
+GROUP, ACKNOWLEDGEMENT, COPY_WANTED, COPY_PART, COPY_END, GREETING = 1, 2, 3, 4, 5, 8
 # what this release says of the link
 LINK_VERSION = 1
 # how many bytes a greeting has, and an acknowledgement
 GREETING_BYTES = ACK_BYTES = 17
 # the first byte of a change: of a put with one name or two, a drop with one or two, and of the two others
 PUTS, DROPS, DROP_KEY, CLEAR = {1: 1, 2: 2}, {3: 1, 4: 2}, 5, 6
+# the fewest bytes that a put has, the most that a value has, and the most that the puts of a part have
+LEAST_PUT, MOST_VALUE, MOST_PART = 7, 1_048_576, 2_097_152
 
 
 class Greeting(typing.NamedTuple):
@@ -36,6 +38,29 @@ class Acknowledgement(typing.NamedTuple):
     position: int
 
 
+class CopyWanted(typing.NamedTuple):
+    """A newcomer wants a copy from the primary of this epoch."""
+
+    epoch: int
+
+
+class CopyPart(typing.NamedTuple):
+    """A part of a copy at a position, by its number: puts alone."""
+
+    epoch: int
+    position: int
+    number: int
+    puts: tuple
+
+
+class CopyEnd(typing.NamedTuple):
+    """The end of a copy at a position that has so many parts."""
+
+    epoch: int
+    position: int
+    parts: int
+
+
 def number(value):
     return value.to_bytes(8, "big")
 
@@ -59,9 +84,11 @@ def text(message):
         return bytes([GREETING]) + number(message.version) + number(message.pair)
     if isinstance(message, Acknowledgement):
         return bytes([ACKNOWLEDGEMENT]) + number(message.epoch) + number(message.position)
-    body = b"".join(map(change_text, message.changes))
-    numbers = (message.epoch, message.before, message.after, len(body))
-    return bytes([GROUP]) + b"".join(map(number, numbers)) + body
+    if isinstance(message, (CopyWanted, CopyEnd)):
+        return bytes([COPY_WANTED if isinstance(message, CopyWanted) else COPY_END]) + b"".join(map(number, message))
+    body = b"".join(map(change_text, message[3]))
+    numbers = (*message[:3], len(body))
+    return bytes([GROUP if isinstance(message, Group) else COPY_PART]) + b"".join(map(number, numbers)) + body
 
 
 class Reader:
@@ -107,13 +134,17 @@ def read(data):
     kind = reader.number(1)
     if kind == ACKNOWLEDGEMENT:
         message = Acknowledgement(reader.number(), reader.number())
-    elif kind == GROUP:
-        epoch, before, after = reader.number(), reader.number(), reader.number()
+    elif kind == COPY_WANTED:
+        message = CopyWanted(reader.number())
+    elif kind == COPY_END:
+        message = CopyEnd(reader.number(), reader.number(), reader.number())
+    elif kind in (GROUP, COPY_PART):
+        numbers = reader.number(), reader.number(), reader.number()
         body = Reader(reader.take(reader.number()))
         changes = []
         while body.data:
             changes.append(read_change(body))
-        message = Group(epoch, before, after, tuple(changes))
+        message = (Group if kind == GROUP else CopyPart)(*numbers, tuple(changes))
     else:
         raise ValueError(f"no frame begins with {kind}")
     if reader.data:
@@ -141,38 +172,49 @@ class Front:
         taken, self.data = self.data[:count], self.data[count:]
         return taken
 
-    def number(self, size, least, most):
+    def number(self, size, *bounds):
+        """A number within some of these bounds."""
         begun = self.data[:size]
         lowest, highest = (int.from_bytes(begun.ljust(size, rest), "big") for rest in (b"\0", b"\xff"))
-        if highest < least or most < lowest:
+        if all(highest < least or most < max(lowest, least) for least, most in bounds):
             raise Fault
         return int.from_bytes(self.take(size), "big")
 
-    def change(self, left):
-        """Passes a change of at most `left` bytes: what it leaves of them can be clears, each of one byte."""
-        kind = self.number(1, 1, 6)
+    def change(self, left, kinds):
+        """Passes a change of one of these kinds, of at most `left` bytes. What it leaves of them can be clears, each of one byte; where only puts
+        are allowed it is nothing, or enough for another put."""
+        kind = self.number(1, (1, kinds))
         names, values = (PUTS | DROPS | {DROP_KEY: 1, CLEAR: 0})[kind], int(kind in PUTS)
         spare = left - (1 + 2 * names + 4 * values)
         if spare < 0:
             raise Fault
-        for size, limit in names * [(2, 512)] + values * [(4, 1_048_576)]:
-            length = self.number(size, 0, min(limit, spare))
+        for size, limit in names * [(2, 512)] + values * [(4, MOST_VALUE)]:
+            bounds = [(0, min(limit, spare))]
+            if kinds == 2 and size == 4:
+                bounds = [(0, min(limit, spare - LEAST_PUT))] + [(spare, spare)] * (spare <= limit)
+            length = self.number(size, *bounds)
             self.take(length)
             spare -= length
 
-    def frame(self):
-        """Passes a frame."""
-        if self.number(1, 1, 2) == ACKNOWLEDGEMENT:
-            self.take(16)
-            return
-        self.take(8)
-        before = self.number(8, 0, 2**64 - 2)
-        self.number(8, before + 1, 2**64 - 1)
-        left = self.number(8, 0, 2**40)
+    def body(self, left, kinds):
         while left:
             there = len(self.data)
-            self.change(left)
+            self.change(left, kinds)
             left -= there - len(self.data)
+
+    def frame(self):
+        """Passes a frame."""
+        kind = self.number(1, (1, 5))
+        if kind in (ACKNOWLEDGEMENT, COPY_WANTED, COPY_END):
+            self.take({ACKNOWLEDGEMENT: 16, COPY_WANTED: 8, COPY_END: 24}[kind])
+        elif kind == COPY_PART:
+            self.take(24)
+            self.body(self.number(8, (LEAST_PUT, MOST_PART)), 2)
+        else:
+            self.take(8)
+            before = self.number(8, (0, 2**64 - 2))
+            self.number(8, (before + 1, 2**64 - 1))
+            self.body(self.number(8, (0, 2**40)), 6)
 
 
 def read_stream(data):

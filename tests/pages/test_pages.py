@@ -24,7 +24,7 @@ NUMBER = re.compile(r"(\d{1,3}(?:,\d{3})+|\d+)(?:\^(\d+))?")
 
 # Names that pages may give though no source has them: calls and definitions that they say come later, which go from here once they are there; and what
 # belongs to Redis, to the toolchain or to the system, or stands for a word of the reader.
-LATER = ["IsFenced", "raise_round", "rejoin"]
+LATER = ["IsFenced", "raise_round"]
 OUTSIDE = {
     "DBSIZE", "FLUSHDB", "QUIT", "HELLO", "Clone", "Copy", "bytes::BufMut", "io::Write", "slab", "indexmap", "clap", "crossbeam_utils", "KEY", "WBLIMG01",
     "dmesg", "smartctl", "MALLOC_MMAP_THRESHOLD_", "MALLOC_TRIM_THRESHOLD_", "GLIBC_TUNABLES",

@@ -14,6 +14,19 @@ FIRST_FRAME = bytes.fromhex(
 )
 FIRST_ACKNOWLEDGEMENT = bytes.fromhex("02 0000000000000001 0000000000000001")
 
+# A copy at position 2 of a `1` and b `2` is wanted, its one part, and its end: what `proofs/WorkedCases.antt` of stream_codec evaluates.
+COPY_FRAMES = [
+    (plain_wire.CopyWanted(1), "03 0000000000000001", 9),
+    (plain_wire.CopyPart(1, 2, 0, (plain_keyspace.Put((b"a",), b"1"), plain_keyspace.Put((b"b",), b"2"))),
+     "04 0000000000000001 0000000000000002 0000000000000000 0000000000000012 010001610000000131 010001620000000132", 51),
+    (plain_wire.CopyEnd(1, 2, 1), "05 0000000000000001 0000000000000002 0000000000000001", 25),
+]
+# Where a part of a copy is at fault: what is behind its three numbers, and how many bytes there are up to the fault.
+PART_FAULTS = [
+    ("0000000000000000", 33), ("0000000000000006", 33), ("0000000000200001", 33), ("0000000000000012 03", 34),
+    ("000000000000000d 01 0000 00000001", 40),
+]
+
 # One of each change: puts and drops of a string and of a field, a key that is dropped, and all of them.
 CHANGES = [
     spell("SET", "a", "1"), spell("HSET", "h", "f", "1", "g", "2"), spell("HDEL", "h", "f"), spell("DEL", "a"), spell("DEL", "h"),
@@ -40,6 +53,25 @@ class Wire(Runs):
         self.assertEqual((len(FIRST_FRAME), len(FIRST_ACKNOWLEDGEMENT)), (42, 17))
         put = plain_keyspace.Put((b"a",), b"1")
         self.assertEqual(plain_wire.read(FIRST_FRAME), plain_wire.Group(1, 0, 1, (put,)))
+
+    def test_worked_frames_of_a_copy(self):
+        stream = b""
+        for message, text, size in COPY_FRAMES:
+            with self.case(type(message).__name__):
+                self.assertEqual((plain_wire.text(message), plain_wire.read(bytes.fromhex(text))), (bytes.fromhex(text), message))
+                self.assertEqual(len(plain_wire.text(message)), size)
+            stream += plain_wire.text(message)
+        frames, fault = plain_wire.read_stream(stream)
+        self.assertEqual(([message for _, message in frames], fault), ([message for message, _, _ in COPY_FRAMES], None))
+        longest = plain_wire.Put((b"k" * 512, b"f" * 512), b"v" * 1_048_576)
+        self.assertEqual(len(plain_wire.change_text(longest)), 1_049_609)
+
+    def test_faults_of_a_part_of_a_copy(self):
+        for rest, place in PART_FAULTS:
+            with self.case(rest):
+                text = bytes.fromhex(COPY_FRAMES[1][1])[:25] + bytes.fromhex(rest)
+                self.assertEqual(plain_wire.read_stream(text), ([], place))
+                self.assertEqual(len(text), place)
 
     def test_a_frame_that_is_cut_anywhere_is_one_frame(self):
         whole = self.play(delivered_in(0, SET_A))

@@ -54,11 +54,11 @@ StopsAt-next first middle last all yielded waiting later message left next run r
 
 -- ---- reads
 
-Reads-none : (held : Option (List ℕ)) → Reads held [] [] held
+pub Reads-none : (held : Option (List ℕ)) → Reads held [] [] held
 Reads-none held = λ before given reaches.
     subst (λ (text : List ℕ). Reaches text (given ++ []) held) (sym (append-nil before)) (subst (λ (sent : List Sent). Reaches before sent held) (sym (append-nil given)) reaches)
 
-Reads-more : (held unread : Option (List ℕ)) (text piece : List ℕ) (messages : List Sent) → Reads held text messages unread
+pub Reads-more : (held unread : Option (List ℕ)) (text piece : List ℕ) (messages : List Sent) → Reads held text messages unread
     → Reads held (text ++ piece) (messages ++ (fed unread piece).messages) (fed unread piece).unread
 Reads-more held unread text piece messages reads = λ before given reaches.
     subst (λ (all : List ℕ). Reaches all (given ++ (messages ++ (fed unread piece).messages)) (fed unread piece).unread) (append_assoc before text piece)

@@ -2,8 +2,13 @@ mod SentFrames
 mod Serving
 mod Says
 mod JoinedFrames
+mod Copies
+mod NewcomerSteps
+mod GatheredParts
 mod Hearing
+mod ServedOn
 mod FirstPieces
 mod SentRounds
+mod GivenCopies
 mod Carrying
 mod Greeted

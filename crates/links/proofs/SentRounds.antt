@@ -1,5 +1,5 @@
 -- What a link sent, step by step and round by round, and what was written of it.
-use Rattle.std.proofs.Common.{◌≡◌, ⊎_elim, true, true≢false, ℕ, ◌+◌, ◌<◌, ◌≤◌, List, [], ◌∷◌, ◌++◌, length, Option, Some, None, Result, Ok, Err, OnOk, refl, sym, ap, subst, ◌∙◌, append-nil, append_assoc, arith}
+use Rattle.std.proofs.Common.{◌≡◌, ◌⊎◌, inl, inr, ⊎_elim, true, true≢false, ℕ, ◌+◌, ◌<◌, ◌≤◌, List, [], ◌∷◌, ◌++◌, length, Option, Some, None, Result, Ok, Err, OnOk, refl, sym, ap, subst, ◌∙◌, append-nil, append_assoc, arith}
 use Rattle.std.specs.Prelude.{is_none, slice_get}
 use Rattle.std.proofs.lemmas.Bool.{cases_lt}
 use Rattle.std.proofs.lemmas.Grind.{flat_map-append}
@@ -11,10 +11,17 @@ use Rattle.model.specs.declared.group.Group.{Group}
 use Rattle.pipes.specs.declared.limits.TheConstants.{KEPT_GROUPS}
 use Rattle.frames.specs.declared.frame.Frame.{Frame}
 use Rattle.standby_stream.specs.Sent.{MaySend}
+use Rattle.standby_stream.specs.declared.copying.Copying.{Copying}
+use Rattle.standby_stream.specs.declared.copying.Copying.TheVariants.{Follows, Awaited, Sending}
 use Rattle.standby_stream.specs.Stream.{Stream, Frames, IsDue, IsFull, TakesNext, acknowledged}
 use Rattle.links.specs.Sending.{Ends, broken, whole, HasSent, Rounds, WorksOff, unbegun, round, Sends, nothing, more, Step, again, fresh, waits, stays, HasNone, Waits, delta_text, frame_text, frames_text}
 use Rattle.links.proofs.Serving.{Appends-join, Appends-none}
 use Rattle.links.specs.declared.sending.TheConstants.{FRAMES_AT_ONCE}
+
+pub follows_or_not : (copying : Copying) → (copying ≡ Follows) ⊎ (¬ (copying ≡ Follows))
+follows_or_not Follows = inl refl
+follows_or_not Awaited = inr (λ is. cc)
+follows_or_not (Sending pinned) = inr (λ is. cc)
 
 same_frame : (kept : List Frame) (own frame : Frame) → slice_get (kept ++ own ∷ []) (length kept) ≡ Some frame → own ≡ frame
 same_frame kept own frame is = sym (get_or-append_seam kept own [] own) ∙ get_or_from_slice_get (kept ++ own ∷ []) (length kept) frame own is
@@ -35,7 +42,8 @@ put_alone old after text empty put = put ∙ ap (λ (bytes : List ℕ). bytes ++
 module _ {I : Type 0} (gives : I → Option Group → I → Type 0) where
   -- what `Outgoing::next_frame` says where it gives what it gives
   pub record Given (given : Option ℕ) (old new : Stream) (groups left : I) : Type 0 where
-    pub kept : old.next < length old.kept → (◌≡◌ {A = Result (Option ℕ) Refusal} (Ok given) (Ok (Some old.next))) × (new ≡ record old { next = old.next + 1 }) × (left ≡ groups)
+    pub rests : (¬ (old.copying ≡ Follows)) → (◌≡◌ {A = Result (Option ℕ) Refusal} (Ok given) (Ok None)) × (new ≡ old) × (left ≡ groups)
+    pub kept : old.copying ≡ Follows → old.next < length old.kept → (◌≡◌ {A = Result (Option ℕ) Refusal} (Ok given) (Ok (Some old.next))) × (new ≡ record old { next = old.next + 1 }) × (left ≡ groups)
     pub none : IsFull old → (◌≡◌ {A = Result (Option ℕ) Refusal} (Ok given) (Ok None)) × (new ≡ old) × (left ≡ groups)
     pub next : IsDue old → (found : Option Group) × TakesNext gives old.pending groups found left × Frames old found given new
     pub sends : MaySend old given new
@@ -45,9 +53,9 @@ module _ {I : Type 0} (gives : I → Option Group → I → Type 0) where
   none_given (Some group) old new groups left takes frames = let is = frames.0 in absurd cc
 
   -- where none is given all that are kept were sent
-  none_left : (old new : Stream) (groups left : I) → old.next ≤ length old.kept → Given None old new groups left → old.next ≡ length old.kept
-  none_left old new groups left within told =
-      ⊎_elim (λ (kept : old.next < length old.kept). let is = (told.kept kept).0 in absurd cc) (λ (beyond : length old.kept ≤ old.next). omega (arith, within, beyond))
+  none_left : (old new : Stream) (groups left : I) → old.next ≤ length old.kept → Given None old new groups left → old.copying ≡ Follows → old.next ≡ length old.kept
+  none_left old new groups left within told follows =
+      ⊎_elim (λ (kept : old.next < length old.kept). let is = (told.kept follows kept).0 in absurd cc) (λ (beyond : length old.kept ≤ old.next). omega (arith, within, beyond))
       (cases_lt old.next (length old.kept))
 
   -- where none is given there is none
@@ -91,13 +99,19 @@ module _ {I : Type 0} (gives : I → Option Group → I → Type 0) where
       subst (λ (link : Stream). Step gives old groups (frame ∷ []) link left) (sym is)
       (subst (λ (rest : I). Step gives old groups (frame ∷ []) (record old { next = old.next + 1 }) rest) (sym same) (again old groups frame put_at))
 
+  -- where one is given a standby follows
+  where_given : (index : ℕ) (old new : Stream) (groups left : I) → Given (Some index) old new groups left → old.copying ≡ Follows
+  where_given index old new groups left told =
+      ⊎_elim (λ (follows : old.copying ≡ Follows). follows) (λ (other : ¬ (old.copying ≡ Follows)). let is = (told.rests other).0 in absurd cc) (follows_or_not old.copying)
+
   sent-by : (index : ℕ) (old new : Stream) (groups left : I) (frame : Frame) → Given (Some index) old new groups left → slice_get new.kept index ≡ Some frame → Step gives old groups (frame ∷ []) new left
   sent-by index old new groups left frame told put =
-      ⊎_elim (λ (within : old.next < length old.kept). let is = told.kept within in sent-again index old new groups left frame told.sends.index_is is.1 is.2 put)
+      let follows = where_given index old new groups left told in
+      ⊎_elim (λ (within : old.next < length old.kept). let is = told.kept follows within in sent-again index old new groups left frame told.sends.index_is is.1 is.2 put)
       (λ (beyond : length old.kept ≤ old.next).
       let all_sent : old.next ≡ length old.kept = let within = told.sends.was_within in omega arith in
       ⊎_elim (λ (room : length old.kept < KEPT_GROUPS).
-      let due : IsDue old = record { all_sent = all_sent; room = room } in
+      let due : IsDue old = record { follows = follows; all_sent = all_sent; room = room } in
       let next = told.next due in sent-fresh next.0 index old new groups left frame due next.1 next.2 put)
       (λ (many : KEPT_GROUPS ≤ length old.kept). let is = (told.none (record { all_sent = all_sent; many = many })).0 in absurd cc)
       (cases_lt (length old.kept) KEPT_GROUPS))

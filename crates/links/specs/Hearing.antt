@@ -3,9 +3,11 @@ use Rattle.std.specs.Prelude.{◌≡◌, ◌⊎◌, ℕ, ◌<◌, ◌≤◌, max
 use Rattle.std.specs.Io.KnownBytes.{Consumes}
 use Rattle.frames.specs.declared.frame.Frame.{Frame}
 use Rattle.frames.specs.declared.ack.Ack.{Ack}
+use Rattle.frames.specs.declared.copy.CopyWanted.{CopyWanted}
 use Rattle.stream_codec.specs.Message.{Sent, sent_of_frame, sent_of_ack}
 use Rattle.standby_stream.specs.Stream.{counts}
 use Rattle.wakes.specs.Waiting.{WakesDue}
+use Rattle.links.specs.Copies.{IsOfCopy}
 use Rattle.links.specs.Reading.{Reads}
 use Rattle.links.specs.declared.receiver.AckReceiver.{AckReceiver}
 use Rattle.links.specs.declared.standing.Standing.TheVariants.{Ahead, Behind}
@@ -22,6 +24,15 @@ pub record Takes (old : AckReceiver) (ack : Ack) (new : AckReceiver) : Type 0 wh
   pub epoch : new.epoch ≡ old.epoch
   pub calls : WakesDue old.due (min new.marks.local new.marks.remote) new.due
 
+-- The receiver took the word of a newcomer of its epoch that it wants a copy: it was heard, and nothing else is changed.
+pub record HearsNewcomer (old : AckReceiver) (wanted : CopyWanted) (new : AckReceiver) : Type 0 where
+  pub own : wanted.epoch ≡ old.epoch
+  pub heard : new.marks ≡ record old.marks { heard = 1 }
+  pub was_behind : old.standing ≡ Behind
+  pub behind : new.standing ≡ Behind
+  pub epoch : new.epoch ≡ old.epoch
+  pub calls_none : new.due ≡ old.due
+
 -- The receiver refused this acknowledgement, and the remote mark stayed: it does not count, or the standby was ahead before, or it is above the local mark as
 -- it was read before. By one that counts the standby is ahead from then on; any other says nothing of that. No writer was called.
 pub record RefusesAck (old : AckReceiver) (ack : Ack) (new : AckReceiver) : Type 0 where
@@ -32,10 +43,11 @@ pub record RefusesAck (old : AckReceiver) (ack : Ack) (new : AckReceiver) : Type
   pub foreign : counts old.epoch ack ≡ false → new.standing ≡ old.standing
   pub calls_none : new.due ≡ old.due
 
--- the same of a message, or it is a group, which only a primary sends
+-- the same of a message, or it is a group, which only a primary sends, or of a copy, which this node gives to nobody
 abbrev pub Refuses : AckReceiver → Sent → AckReceiver → Type 0
 Refuses old message new =
-    ((ack : Ack) × (message ≡ sent_of_ack ack) × RefusesAck old ack new) ⊎ ((frame : Frame) × (message ≡ sent_of_frame frame) × (new ≡ old))
+    ((ack : Ack) × (message ≡ sent_of_ack ack) × RefusesAck old ack new) ⊎ (((frame : Frame) × (message ≡ sent_of_frame frame) × (new ≡ old))
+    ⊎ (IsOfCopy message × (new ≡ old)))
 
 -- The receiver took these messages, in order, each of which is an acknowledgement, and did nothing else.
 pub data Hears : AckReceiver → List Sent → AckReceiver → Type 0 where

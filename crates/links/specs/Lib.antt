@@ -1,7 +1,13 @@
 pub mod Marking
 pub mod Sending
 pub mod Reading
+pub mod Copies
+pub mod Copying
+pub mod Continuing
+pub mod Copied
 pub mod Hearing
+pub mod First
+pub mod Giving
 pub mod Opening
 pub mod Serving
 pub mod Joining

@@ -6,6 +6,7 @@ use Rattle.model.specs.declared.group.Group.{Group}
 use Rattle.frames.specs.declared.frame.Frame.{Frame}
 use Rattle.stream_codec.specs.Message.{sent_of_frame, sent_text}
 use Rattle.links.specs.declared.sending.TheConstants.{FRAMES_AT_ONCE}
+use Rattle.standby_stream.specs.declared.copying.Copying.TheVariants.{Follows}
 use Rattle.standby_stream.specs.Stream.{Stream, IsDue, IsFrameOf, IsFull, TakesNext, acknowledged}
 
 -- a frame as bytes
@@ -23,9 +24,9 @@ delta_text (Some frame) = frame_text frame
 
 -- ---- which frames, by what a take from the inlet of groups gives
 
--- No frame is sent: all that are kept were, and no group waits, or as many are kept as may be and none was taken.
+-- No frame is sent: all that are kept were, and no group waits, or as many are kept as may be and none was taken; or no standby follows.
 pub record Waits {I : Type 0} (gives : I → Option Group → I → Type 0) (link : Stream) (groups left : I) : Type 0 where
-  pub all_sent : link.next ≡ length link.kept
+  pub all_sent : link.copying ≡ Follows → link.next ≡ length link.kept
   pub due : IsDue link → TakesNext gives link.pending groups None left
   pub full : IsFull link → left ≡ groups
 

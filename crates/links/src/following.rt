@@ -1,13 +1,14 @@
 //! The standby's side: one link at a time.
 ghost use Rattle.std.specs.Prelude.{◌≡◌, ◌↔◌, ℕ, List, [], ◌∷◌, OnOk, OnErr, Err, Ok, Option, None, Some, MatchOption, IfOk, IfErr, IfSome, IsErrOf};
 ghost use Rattle.std.specs.Io.KnownBytes.{Appends, Consumes};
-ghost use Rattle.kv_types.specs.declared.refusal.Refusal.TheVariants.{Fault, Memory};
+ghost use Rattle.kv_types.specs.declared.refusal.Refusal.TheVariants.{Fault, FrameFault, Memory};
 ghost use Rattle.stream_codec.specs.Message.{sent_of, sent_of_frame};
 ghost use Rattle.stream_codec.specs.Reading.{group_begun};
 ghost use Rattle.stream_codec.specs.Scanning.{sent_of_all};
 ghost use Rattle.stream_codec.specs.Stream.{fed};
 ghost use Rattle.frames.specs.declared.ack.Ack.{Ack as Told};
 ghost use Rattle.stream_codec.specs.declared.message.Message.TheVariants.{Ack as AckMessage};
+ghost use Rattle.links.specs.Copies.{IsOfCopy};
 ghost use Rattle.links.specs.Reading.{piece_of};
 ghost use Rattle.placing.specs.Fill.{fill_of};
 ghost use Rattle.standby.specs.Taking.{Stands};
@@ -17,6 +18,7 @@ ghost use Rattle.links.specs.declared.left.Left.TheVariants.{Adopts, Stopped};
 ghost use Rattle.node_log.specs.declared.link_error.LinkError.TheVariants.{Closed, Refused, Stops};
 
 use crate::acknowledging::say;
+use crate::copy_teller::CopyTeller;
 use crate::joining::join_frames;
 use crate::left::Left;
 use crate::link_acceptor::LinkAcceptor;
@@ -24,6 +26,8 @@ use crate::link_error::{ends_by, refusal_of_ack, refusal_of_head};
 use crate::link_reader::{LinkReader, end_turn};
 use crate::link_writer::{LinkWriter, limit_writes};
 use crate::meeting::{left_by, serve_greeted};
+use crate::reading::new_block;
+use crate::serving_on::answer_from;
 use crate::stage::Stage;
 use frames::{Ack, Frame};
 use greeting::Greeting;
@@ -31,7 +35,7 @@ use kv_types::Refusal;
 use mv_keyspace::Keyspace;
 use node_log::{FillSetter, LinkError, Log, Progress};
 use standby::Standby;
-use std::alloc::{AllocError, Global};
+use std::alloc::Global;
 use std::cell::Cell;
 use std::io;
 use std::io::{ErrorKind, Read, Write};
@@ -42,7 +46,7 @@ use stream_codec::{Decoder, GroupHead, Message};
 use wbl_engine::Durable;
 
 /// How many bytes are read at once, which is room that a standby keeps once: the frames that one read brings are joined.
-const BLOCK_BYTES: usize = 262_144;
+pub(crate) const BLOCK_BYTES: usize = 262_144;
 
 /// Takes one link at a time, until one stops the node, or the node takes over the number of a pair, and says which. Both sides of each link say first which
 /// release's links they speak and to which pair they belong, and a link whose sides may not link ends there, with the node as it was. With a host, connections from any other are closed at once. A link on which
@@ -107,7 +111,8 @@ fn serve_next<C: Clock, E: Durable, K: Keyspace, W: Write>(
     limit_writes(stream);
     let written = Cell::new(0);
     let stage = Cell::new(Stage::Unmet);
-    let mut from = LinkReader::new(stream, acceptor, &written, &stage, progress);
+    let teller = CopyTeller::new();
+    let mut from = LinkReader::new(stream, acceptor, &written, &stage, progress, &teller);
     let mut to = LinkWriter::new(stream, &written, progress);
     let met = serve_greeted(alloc, own, node, &mut from, &mut to, shown, &stage);
     end_turn(progress);
@@ -152,15 +157,10 @@ pub fn serve_link<E: Durable, K: Keyspace, I: Read, O: Write>(
         × (¬ IsErrOf result Closed → part ≡ [])) }
     ensures shown { OnOk result (shown.new ≡ fill_of (K.table node.new.keyspace) node.new.heap) }
 {
-    let mut block = new_block(alloc)?;
+    let mut block = new_block(alloc, BLOCK_BYTES)?;
     let mut out = Vec::new(alloc);
     say(node.ack(), to, &mut out)?;
     answer_until_closed(alloc, node, from, to, shown, &mut block, &mut out)
-}
-
-/// Room for what is read at once.
-fn new_block(alloc: Global) -> Result<Vec<u8>, AllocError> {
-    vec![in alloc; 0u8; BLOCK_BYTES]
 }
 
 /// Answers the frames that come, until the primary closes the connection.
@@ -182,26 +182,12 @@ fn answer_until_closed<E: Durable, K: Keyspace, I: Read, O: Write>(
         (held (E.contents node.new.engine) (K.table node.new.keyspace)) (I.remaining from.new) (O.contents to.new) part × (¬ IsErrOf result Closed → part ≡ [])) }
     ensures shown { OnOk result (shown.new ≡ fill_of (K.table node.new.keyspace) node.new.heap) }
 {
-    let mut decoder = Decoder::new(alloc);
-    shown.show(&node.fill());
-    for _ in 0..u64::MAX {
-        let piece = match read_piece(from, block)? {
-            Came::Piece(piece) => piece,
-            Came::Nothing => {
-                tidy(alloc, node)?;
-                shown.show(&node.fill());
-                continue;
-            }
-            Came::End => return Ok(()),
-        };
-        answer_piece(alloc, node, &mut decoder, piece, out, to)?;
-        shown.show(&node.fill());
-    }
-    Ok(())
+    let decoder = Decoder::new(alloc);
+    answer_from(alloc, node, decoder, from, to, shown, block, out)
 }
 
 /// What a read of a link came to.
-enum Came<'a> {
+pub(crate) enum Came<'a> {
     /// These bytes.
     Piece(&'a [u8]),
     /// Nothing, for as long as a read waits.
@@ -211,7 +197,10 @@ enum Came<'a> {
 }
 
 /// Reads what has come.
-fn read_piece<'a, I: Read>(from: &mut I, block: &'a mut Vec<u8>) -> Result<Came<'a>, LinkError>
+pub(crate) fn read_piece<'a, I: Read>(
+    from: &mut I,
+    block: &'a mut Vec<u8>,
+) -> Result<Came<'a>, LinkError>
     ensures read { IfOk result (λ came. Consumes (I.remaining from.old) (I.remaining from.new) (piece_of came)) }
     ensures none { OnErr result (Consumes (I.remaining from.old) (I.remaining from.new) []) }
     ensures cause { IfErr result (λ end. end ≡ Closed) }
@@ -226,7 +215,10 @@ fn read_piece<'a, I: Read>(from: &mut I, block: &'a mut Vec<u8>) -> Result<Came<
 
 /// Uses a time in which nothing comes: frees what has ended, and clears the oldest gap of the record. What there is no memory for is left. A fence that
 /// fails stops the node.
-fn tidy<E: Durable, K: Keyspace>(alloc: Global, node: &mut Standby<E, K>) -> Result<(), LinkError>
+pub(crate) fn tidy<E: Durable, K: Keyspace>(
+    alloc: Global,
+    node: &mut Standby<E, K>,
+) -> Result<(), LinkError>
     requires stands { Stands E.device E.contents E.is_faulted K.table node.old }
     ensures stands { ¬ IsErrOf result (Stops Fault) → Stands E.device E.contents E.is_faulted K.table node.new }
     ensures tidied { IsTidied (held (E.contents node.old.engine) (K.table node.old.keyspace)) (held (E.contents node.new.engine) (K.table node.new.keyspace)) }
@@ -237,7 +229,7 @@ fn tidy<E: Durable, K: Keyspace>(alloc: Global, node: &mut Standby<E, K>) -> Res
 
 /// Answers the frames that are whole with this piece, in order, and those that `join_frames` joins as one. Nothing is left in `out`. A frame of which only the
 /// beginning is there is one that the node may take, as far as its numbers tell.
-fn answer_piece<E: Durable, K: Keyspace, O: Write>(
+pub(crate) fn answer_piece<E: Durable, K: Keyspace, O: Write>(
     alloc: Global,
     node: &mut Standby<E, K>,
     decoder: &mut Decoder,
@@ -310,7 +302,7 @@ fn answer_all<E: Durable, K: Keyspace, O: Write>(
 }
 
 /// Answers what came: a frame by its acknowledgement. An acknowledgement from the primary is
-/// refused, with nothing changed: `PositionGap` where it is of the node's epoch, else `WrongEpoch`.
+/// refused, with nothing changed: `PositionGap` where it is of the node's epoch, else `WrongEpoch`. So is what is of a copy, by `FrameFault`: this node takes none.
 fn answer<E: Durable, K: Keyspace, O: Write>(
     alloc: Global,
     node: &mut Standby<E, K>,
@@ -328,10 +320,14 @@ fn answer<E: Durable, K: Keyspace, O: Write>(
         (held (E.contents node.new.engine) (K.table node.new.keyspace)) (O.contents to.new) part × (¬ IsErrOf result Closed → part ≡ [])) }
     ensures misplaced { (ack : Told) → message ≡ AckMessage ack
         → (result ≡ Err (Refused (refusal_of_ack (E.contents node.old.engine).current.epoch ack))) × (node.new ≡ node.old) × (to.new ≡ to.old) }
+    ensures of_copy { IsOfCopy (sent_of message) → (result ≡ Err (Refused FrameFault)) × (node.new ≡ node.old) × (to.new ≡ to.old) }
 {
     match message {
         Message::Group(frame) => answer_frame(alloc, node, frame, out, to),
         Message::Ack(ack) => Err(LinkError::Refused(refusal_of_ack(node.epoch(), &ack))),
+        Message::CopyWanted(_) | Message::CopyPart(_) | Message::CopyEnd(_) => {
+            Err(LinkError::Refused(Refusal::FrameFault))
+        }
     }
 }
 

@@ -57,6 +57,11 @@ impl<'a, C: Clock, W: Write> LinkAcceptor<'a, C, W> {
         self.clock
     }
 
+    /// Tells this.
+    pub(crate) fn say(&mut self, news: News<'_>) {
+        self.log.say(news);
+    }
+
     /// Waits for a connection. One that ended before it was taken, or for which descriptors or memory are refused, is passed over after a rest.
     ///
     /// # Errors
@@ -120,7 +125,7 @@ impl<'a, C: Clock, W: Write> LinkAcceptor<'a, C, W> {
 
     /// Tells why a link ended that the primary did not close, or that it was left for another connection: at once where the link before ended otherwise, and
     /// else ever more seldom.
-    fn tell_end(&mut self, why: LinkError, is_left: bool) {
+    pub(crate) fn tell_end(&mut self, why: LinkError, is_left: bool) {
         if self.told != Some((why, is_left)) {
             self.told = Some((why, is_left));
             self.ends = Throttle::new();

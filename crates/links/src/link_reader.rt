@@ -1,6 +1,7 @@
 //! A standby's link, which ends where nothing comes of it and another connection waits.
 ghost use Rattle.std.specs.Prelude.{◌≡◌};
 
+use crate::copy_teller::CopyTeller;
 use crate::link_acceptor::LinkAcceptor;
 use crate::stage::Stage;
 use greeting::GREETING_BYTES;
@@ -36,6 +37,8 @@ pub(crate) struct LinkReader<'a, 'b, S, C, W> {
     stage: &'a Cell<Stage>,
     /// Where the node shows whether it takes what came.
     progress: &'a Option<Arc<Progress>>,
+    /// What tells of the copy that the node gets here, if it does.
+    teller: &'a CopyTeller,
     /// When the link began to be looked at, what was written then, and how many bytes came since.
     since: Option<Instant>,
     written_then: u64,
@@ -45,13 +48,15 @@ pub(crate) struct LinkReader<'a, 'b, S, C, W> {
 }
 
 impl<'a, 'b, S, C: Clock, W: Write> LinkReader<'a, 'b, S, C, W> {
-    /// What comes on this link, with what accepts the others, and where it is shown that something came and is being taken.
+    /// What comes on this link, with what accepts the others, and where it is shown that something came and is being taken, and what tells
+    /// of a copy.
     pub(crate) fn new(
         stream: S,
         acceptor: &'a mut LinkAcceptor<'b, C, W>,
         written: &'a Cell<u64>,
         stage: &'a Cell<Stage>,
         progress: &'a Option<Arc<Progress>>,
+        teller: &'a CopyTeller,
     ) -> LinkReader<'a, 'b, S, C, W>
         ensures { result.stream ≡ stream }
     {
@@ -62,6 +67,7 @@ impl<'a, 'b, S, C: Clock, W: Write> LinkReader<'a, 'b, S, C, W> {
             written,
             stage,
             progress,
+            teller,
             since: None,
             written_then: 0,
             bytes: 0,
@@ -72,6 +78,13 @@ impl<'a, 'b, S, C: Clock, W: Write> LinkReader<'a, 'b, S, C, W> {
     /// Whether nothing has come at all.
     pub(crate) fn is_silent(&self) -> bool {
         self.is_silent
+    }
+
+    /// Tells how far the node has come with its copy, if it gets one.
+    fn look_at_copy(&mut self)
+        ensures { self.new.stream ≡ self.old.stream }
+    {
+        self.teller.look(self.acceptor);
     }
 
     /// The connection for which the link was left, if it was.
@@ -141,6 +154,7 @@ impl<S: Read, C: Clock, W: Write> Read for LinkReader<'_, '_, S, C, W> {
 
     fn read(&mut self, buf: &mut [u8]) -> io::Result<usize> {
         end_turn(self.progress);
+        self.look_at_copy();
         if self.is_done() {
             return Err(io::Error::from(ErrorKind::ConnectionAborted));
         }

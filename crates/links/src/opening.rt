@@ -1,17 +1,17 @@
-//! How a link opens: what the standby says first.
-ghost use Rattle.std.specs.Prelude.{◌≡◌, ◌⊎◌, ℕ, List, [], ◌∷◌, Option, None, OnErr, IfOk, IfSome};
-ghost use Rattle.frames.specs.declared.ack.Ack.{Ack as Told};
-ghost use Rattle.stream_codec.specs.declared.message.Message.TheVariants.{Ack as AckMessage};
+//! How a link opens: what the other side says first.
+ghost use Rattle.std.specs.Prelude.{◌≡◌, ℕ, List, [], ◌∷◌, Option, None, OnErr, OnOk, IfOk, IfSome};
+ghost use Rattle.stream_codec.specs.Message.{sent_of};
 ghost use Rattle.greeting.specs.declared.greeting.Greeting.{Greeting as Said};
 ghost use Rattle.links.specs.Greeting.{Greets};
-ghost use Rattle.links.specs.Hearing.{RefusesAck, Takes};
 ghost use Rattle.links.specs.Marking.{StaysFinal};
-ghost use Rattle.links.specs.Opening.{Opens, SaysFirst};
+ghost use Rattle.links.specs.First.{message_of};
+ghost use Rattle.links.specs.Opening.{Awaits, HearsLink, Opens, OpensTo, Says};
 
 use crate::greetings::greet;
+use crate::opened::Peer;
 use crate::reading::{new_block, read_messages};
 use crate::receiver::AckReceiver;
-use frames::Ack;
+use frames::{Ack, CopyWanted};
 use greeting::Greeting;
 use node_log::Lost;
 use standby_stream::Outgoing;
@@ -34,12 +34,11 @@ pub(crate) fn greet_and_open<I: Read, O: Write>(
     receiver: &mut AckReceiver,
     from: &mut I,
     to: &mut O,
-) -> Result<(u64, Decoder), Lost>
-    ensures opened { IfOk result (λ opened. (theirs : Said) × (left : Option (List ℕ)) × (ack : Told)
-        × Greets own.now theirs (I.remaining from.old) left (O.contents to.old) (O.contents to.new) × SaysFirst left (I.remaining from.new) ack opened.1 × (opened.0 ≡ ack.position)
-        × Opens ack receiver.old receiver.new outgoing.old outgoing.new) }
-    ensures refused { OnErr result ((receiver.new ≡ receiver.old) ⊎ ((ack : Told) × (left : Option (List ℕ)) × (held : Option (List ℕ)) × SaysFirst left (I.remaining from.new) ack held
-        × (RefusesAck receiver.old ack receiver.new ⊎ Takes receiver.old ack receiver.new))) }
+) -> Result<(Peer, Decoder), Lost>
+    ensures opened { IfOk result (λ opened. (theirs : Said) × (left : Option (List ℕ))
+        × Greets own.now theirs (I.remaining from.old) left (O.contents to.old) (O.contents to.new)
+        × OpensTo left (I.remaining from.new) opened.0 opened.1 receiver.old receiver.new outgoing.old outgoing.new) }
+    ensures refused { OnErr result (HearsLink receiver.old receiver.new) }
     ensures link { OnErr result (outgoing.new.link ≡ outgoing.old.link) }
     ensures kept { OnErr result (outgoing.new.opening ≡ outgoing.old.opening) }
     ensures epoch { receiver.new.epoch ≡ receiver.old.epoch }
@@ -52,31 +51,60 @@ pub(crate) fn greet_and_open<I: Read, O: Write>(
     }
 }
 
-/// Opens the link: reads the standby's first acknowledgement, which counts as any other, has what is due from there sent, and takes note of it. Answers
-/// where the standby is, and what reads on behind that.
+/// Opens the link by the other side's first message: a standby's acknowledgement, which counts as any other, or a newcomer's word that it wants a copy. Answers
+/// who it is, and what reads on behind that.
 ///
 /// # Errors
 ///
-/// `Silent` where none came; `Refused` by the receiver, or by `Outgoing::open_at`.
+/// `Silent` where none came; `Refused` by the receiver, by `Outgoing::open_at` or by `Outgoing::await_copy`.
 fn open_link<I: Read>(
     alloc: Global,
     outgoing: &mut Outgoing,
     receiver: &mut AckReceiver,
     from: &mut I,
-) -> Result<(u64, Decoder), Lost>
-    ensures opened { IfOk result (λ opened. (ack : Told) × SaysFirst (I.remaining from.old) (I.remaining from.new) ack opened.1 × (opened.0 ≡ ack.position)
-        × Opens ack receiver.old receiver.new outgoing.old outgoing.new) }
-    ensures refused { OnErr result ((receiver.new ≡ receiver.old) ⊎ ((ack : Told) × (held : Option (List ℕ)) × SaysFirst (I.remaining from.old) (I.remaining from.new) ack held
-        × (RefusesAck receiver.old ack receiver.new ⊎ Takes receiver.old ack receiver.new))) }
+) -> Result<(Peer, Decoder), Lost>
+    ensures opened { IfOk result (λ opened. OpensTo (I.remaining from.old) (I.remaining from.new) opened.0 opened.1 receiver.old receiver.new outgoing.old outgoing.new) }
+    ensures refused { OnErr result (HearsLink receiver.old receiver.new) }
     ensures link { OnErr result (outgoing.new.link ≡ outgoing.old.link) }
     ensures kept { OnErr result (outgoing.new.opening ≡ outgoing.old.opening) }
     ensures epoch { receiver.new.epoch ≡ receiver.old.epoch }
     ensures sends { (outgoing.new.link).epoch ≡ (outgoing.old.link).epoch }
     ensures stays { StaysFinal receiver.old receiver.new }
 {
-    let Some((ack, decoder)) = read_opening(alloc, from) else {
+    let Some((first, decoder)) = read_opening(alloc, from) else {
         return Err(Lost::Silent);
     };
+    match first {
+        First::Standby(ack) => {
+            open_to_standby(alloc, outgoing, receiver, ack)?;
+            Ok((Peer::Standby(ack.position()), decoder))
+        }
+        First::Newcomer(wanted) => {
+            open_to_newcomer(outgoing, receiver, &wanted)?;
+            Ok((Peer::Newcomer, decoder))
+        }
+    }
+}
+
+/// Opens the link to a standby that says by this where it is: has what is due from there sent, and takes note of it.
+///
+/// # Errors
+///
+/// `Refused` by the receiver, or by `Outgoing::open_at`.
+fn open_to_standby(
+    alloc: Global,
+    outgoing: &mut Outgoing,
+    receiver: &mut AckReceiver,
+    ack: Ack,
+) -> Result<(), Lost>
+    ensures opened { OnOk result (Opens ack receiver.old receiver.new outgoing.old outgoing.new) }
+    ensures refused { OnErr result (HearsLink receiver.old receiver.new) }
+    ensures link { OnErr result (outgoing.new.link ≡ outgoing.old.link) }
+    ensures kept { OnErr result (outgoing.new.opening ≡ outgoing.old.opening) }
+    ensures epoch { receiver.new.epoch ≡ receiver.old.epoch }
+    ensures sends { (outgoing.new.link).epoch ≡ (outgoing.old.link).epoch }
+    ensures stays { StaysFinal receiver.old receiver.new }
+{
     if let Err(refusal) = receiver.hear(ack) {
         return Err(Lost::Refused(refusal));
     }
@@ -84,20 +112,54 @@ fn open_link<I: Read>(
         return Err(Lost::Refused(refusal));
     }
     outgoing.note(alloc, ack.position());
-    Ok((ack.position(), decoder))
+    Ok(())
 }
 
-/// Reads the standby's opening acknowledgement: what it says, and what reads on behind it. `None` where the connection ended first or something else came.
-fn read_opening<I: Read>(alloc: Global, from: &mut I) -> Option<(Ack, Decoder)>
-    ensures { IfSome result (λ opened. SaysFirst (I.remaining from.old) (I.remaining from.new) opened.0 opened.1) }
+/// Opens the link to a newcomer: a copy is awaited.
+///
+/// # Errors
+///
+/// `Refused` by the receiver, or by `Outgoing::await_copy`.
+fn open_to_newcomer(
+    outgoing: &mut Outgoing,
+    receiver: &mut AckReceiver,
+    wanted: &CopyWanted,
+) -> Result<(), Lost>
+    ensures opened { OnOk result (Awaits wanted.now receiver.old receiver.new outgoing.old outgoing.new) }
+    ensures refused { OnErr result (HearsLink receiver.old receiver.new) }
+    ensures link { OnErr result (outgoing.new.link ≡ outgoing.old.link) }
+    ensures kept { OnErr result (outgoing.new.opening ≡ outgoing.old.opening) }
+    ensures epoch { receiver.new.epoch ≡ receiver.old.epoch }
+    ensures sends { (outgoing.new.link).epoch ≡ (outgoing.old.link).epoch }
+    ensures stays { StaysFinal receiver.old receiver.new }
+{
+    if let Err(refusal) = receiver.hear_newcomer(wanted) {
+        return Err(Lost::Refused(refusal));
+    }
+    if let Err(refusal) = outgoing.await_copy() {
+        return Err(Lost::Refused(refusal));
+    }
+    Ok(())
+}
+
+/// What the other side of a link says first.
+#[derive(Clone, Copy, Debug)]
+enum First {
+    Standby(Ack),
+    Newcomer(CopyWanted),
+}
+
+/// Reads the other side's first message: what it says, and what reads on behind it. `None` where the connection ended first or something else came.
+fn read_opening<I: Read>(alloc: Global, from: &mut I) -> Option<(First, Decoder)>
+    ensures { IfSome result (λ opened. Says (I.remaining from.old) (I.remaining from.new) (sent_of (message_of opened.0)) opened.1) }
 {
     let mut block = new_block(alloc, BLOCK_BYTES).ok()?;
     let mut decoder = Decoder::new(alloc);
     // it may come in as many pieces as it has bytes
     for _ in 0..ACK_BYTES {
         let messages = read_messages(from, &mut decoder, &mut block)?;
-        if let Some(ack) = only_ack(&messages) {
-            return Some((ack, decoder));
+        if let Some(first) = only_first(&messages) {
+            return Some((first, decoder));
         }
         if !messages.is_empty() {
             return None;
@@ -106,12 +168,14 @@ fn read_opening<I: Read>(alloc: Global, from: &mut I) -> Option<(Ack, Decoder)>
     None
 }
 
-/// The acknowledgement, where it is all that came: only a primary sends a group, and the standby says nothing more until one has come.
-fn only_ack(messages: &[Message]) -> Option<Ack>
-    ensures { IfSome result (λ ack. messages.now ≡ AckMessage ack ∷ []) }
+/// The acknowledgement, or the word that a copy is wanted, where it is all that came: only a primary sends anything else, and the other side says nothing more
+/// until something has come.
+fn only_first(messages: &[Message]) -> Option<First>
+    ensures { IfSome result (λ first. messages.now ≡ message_of first ∷ []) }
 {
     match messages {
-        [Message::Ack(ack)] => Some(*ack),
+        [Message::Ack(ack)] => Some(First::Standby(*ack)),
+        [Message::CopyWanted(wanted)] => Some(First::Newcomer(*wanted)),
         _ => None,
     }
 }

@@ -1,9 +1,10 @@
 //! The thread that takes the standby's acknowledgements while one connection lasts.
 ghost use Rattle.std.specs.Prelude.{◌≡◌, true};
 
+use crate::link_flags::LinkFlags;
 use crate::reading::{new_block, read_messages};
 use crate::standing::Standing;
-use frames::Ack;
+use frames::{Ack, CopyWanted};
 use kv_types::Refusal;
 use marks::ThreadMarks;
 use standby_stream::{Outgoing, judge};
@@ -12,7 +13,7 @@ use std::io::Read;
 use std::net::TcpStream;
 use std::sync::Arc;
 use stream_codec::{Decoder, Message};
-use wakes::{DueOut, Flag, Waker};
+use wakes::{DueOut, Waker};
 
 /// How many bytes of acknowledgements are read at once.
 const BLOCK_BYTES: usize = 4_096;
@@ -32,19 +33,20 @@ pub struct AckReceiver {
     pub link: Waker,
     /// Wakes the node's thread.
     pub node: Waker,
-    /// Set once the connection brings nothing more.
-    pub is_broken: Arc<Flag>,
+    /// What it tells the link's sender of the connection.
+    pub flags: Arc<LinkFlags>,
     ghost raises: { marks.raises_remote ≡ true },
 }
 
 impl AckReceiver {
-    ghost use Rattle.std.specs.Prelude.{◌⊎◌, ◌↔◌, ◌<◌, ◌≤◌, ℕ, List, Option, max, false, Ok, Err, OnOk, OnErr, IfErr, IsTrue, IsErrOf};
+    ghost use Rattle.std.specs.Prelude.{◌≢◌, ◌⊎◌, ◌↔◌, ◌<◌, ◌≤◌, ℕ, List, Option, max, false, Ok, Err, OnOk, OnErr, IfErr, IsTrue, IsErrOf};
     ghost use Rattle.kv_types.specs.declared.refusal.Refusal.TheVariants.{FrameFault, StandbyAhead, WrongEpoch};
     ghost use Rattle.frames.specs.declared.ack.Ack.{Ack as Told};
     ghost use Rattle.stream_codec.specs.Message.{sent_of, sent_of_ack};
     ghost use Rattle.stream_codec.specs.Scanning.{sent_of_all};
     ghost use Rattle.standby_stream.specs.Stream.{counts};
-    ghost use Rattle.links.specs.Hearing.{HasHeard, HasHeardBehind, Hears, Refuses, RefusesAck, StopsAt, Takes};
+    ghost use Rattle.links.specs.Copies.{IsOfCopy};
+    ghost use Rattle.links.specs.Hearing.{HasHeard, HasHeardBehind, Hears, HearsNewcomer, Refuses, RefusesAck, StopsAt, Takes};
     ghost use Rattle.links.specs.Marking.{StaysFinal};
     ghost use Rattle.wakes.specs.Waiting.{WakesDue};
     ghost use Rattle.links.specs.declared.standing.Standing.TheVariants.{Ahead, Behind};
@@ -56,7 +58,7 @@ impl AckReceiver {
         due: DueOut,
         link: Waker,
         node: Waker,
-        is_broken: Arc<Flag>,
+        flags: Arc<LinkFlags>,
     ) -> AckReceiver
         requires raises { marks.raises_remote ≡ true }
         ensures epoch { result.epoch ≡ (outgoing.now.link).epoch }
@@ -70,7 +72,7 @@ impl AckReceiver {
             epoch: outgoing.epoch(),
             link,
             node,
-            is_broken,
+            flags,
         }
     }
 
@@ -82,7 +84,7 @@ impl AckReceiver {
     {
         let mut own = self;
         own.hear_link(alloc, &mut &*stream, decoder);
-        own.is_broken.set();
+        own.flags.is_broken.set();
         own.link.wake();
         own
     }
@@ -138,21 +140,63 @@ impl AckReceiver {
         Ok(())
     }
 
-    /// Takes an acknowledgement. Nothing else comes from a standby.
+    /// Takes an acknowledgement. Nothing else comes from a standby, and nothing else changes anything.
     ///
     /// # Errors
     ///
-    /// Those of `hear`, and `FrameFault` for a group, which only a primary sends.
+    /// Those of `hear`, and `FrameFault` for a group, which only a primary sends, and for what is of a copy, which this node gives to nobody.
     fn hear_message(&mut self, message: &Message) -> Result<(), Refusal>
         ensures epoch { self.new.epoch ≡ self.old.epoch }
         ensures stays { StaysFinal self.old self.new }
         ensures taken { OnOk result ((ack : Told) × (sent_of message.now ≡ sent_of_ack ack) × Takes self.old ack self.new) }
         ensures refused { OnErr result (Refuses self.old (sent_of message.now) self.new) }
+        ensures of_copy { IsOfCopy (sent_of message.now) → (result ≡ Err FrameFault) × (self.new ≡ self.old) }
     {
         match message {
-            Message::Ack(ack) => self.hear(*ack),
+            Message::Ack(ack) => self.hear_acked(*ack),
             Message::Group(_) => Err(Refusal::FrameFault),
+            Message::CopyWanted(_) | Message::CopyPart(_) | Message::CopyEnd(_) => {
+                Err(Refusal::FrameFault)
+            }
         }
+    }
+
+    /// Takes an acknowledgement behind the link's first message, and tells the sender that one came.
+    ///
+    /// # Errors
+    ///
+    /// Those of `hear`.
+    fn hear_acked(&mut self, ack: Ack) -> Result<(), Refusal>
+        ensures epoch { self.new.epoch ≡ self.old.epoch }
+        ensures stays { StaysFinal self.old self.new }
+        ensures taken { OnOk result (Takes self.old ack self.new) }
+        ensures refused { OnErr result (RefusesAck self.old ack self.new) }
+    {
+        self.hear(ack)?;
+        self.flags.has_acked.set();
+        self.link.wake();
+        Ok(())
+    }
+
+    /// Takes the word of a newcomer that it wants a copy: no standby is left that could be ahead of this node. The node's thread is woken. The remote mark stays.
+    ///
+    /// # Errors
+    ///
+    /// `WrongEpoch` for one of another epoch, and `StandbyAhead` where the standby was once ahead. Nothing changed then.
+    pub(crate) fn hear_newcomer(&mut self, wanted: &CopyWanted) -> Result<(), Refusal>
+        ensures heard { OnOk result (HearsNewcomer self.old wanted.now self.new) }
+        ensures refused { OnErr result (self.new ≡ self.old) }
+        ensures wrong { wanted.now.epoch ≢ self.old.epoch → result ≡ Err WrongEpoch }
+    {
+        if wanted.epoch != self.epoch {
+            return Err(Refusal::WrongEpoch);
+        }
+        if self.is_final() {
+            return Err(Refusal::StandbyAhead);
+        }
+        self.marks.hear_newcomer(wanted);
+        self.node.wake();
+        Ok(())
     }
 
     /// Takes an acknowledgement: raises the remote mark to it, and wakes the writers that are due, the link's sender and the node's thread. The local mark is

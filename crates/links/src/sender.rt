@@ -1,50 +1,47 @@
 //! The thread that opens the link to the standby and sends on it.
 ghost use Rattle.std.specs.Prelude.{◌≡◌, ◌⊎◌, ◌↔◌, ◌<◌, ℕ, List, Option, OnErr, OnOk, IfOk, IsTrue};
-ghost use Rattle.frames.specs.declared.ack.Ack.{Ack as Told};
-ghost use Rattle.links.specs.Carrying.{GoesOut, KeepsAll, SendsOnLink, ServesLink, ServesLinks, TouchesNeither};
+ghost use Rattle.links.specs.Carrying.{GivesAndSends, GivesCopy, GoesTo, KeepsAll, SendsOnLink, SendsTo, ServesLink, ServesLinks, TouchesNeither};
 ghost use Rattle.links.specs.Ends.{AreOfOneEpoch};
 ghost use Rattle.greeting.specs.declared.greeting.Greeting.{Greeting as Said};
 ghost use Rattle.links.specs.Greeting.{Greets, greeting_of};
 ghost use Rattle.links.specs.Hearing.{HasHeardBehind};
 ghost use Rattle.links.specs.Marking.{StaysFinal};
-ghost use Rattle.links.specs.Opening.{HearsLink, Opens, SaysFirst};
+ghost use Rattle.links.specs.Opening.{HearsLink, OpensOrAwaits, OpensTo};
+ghost use Rattle.standby_stream.specs.declared.copying.Copying.TheVariants.{Follows};
 ghost use Rattle.links.specs.declared.standing.Standing.TheVariants.{Behind};
 
+use crate::desk::CopyDesk;
 use crate::dialing::{dial, why_not};
 use crate::gap::tell_gap;
+use crate::giving::give_copy;
+use crate::opened::{Opened, Peer, share};
 use crate::opening::greet_and_open;
+use crate::pausing::{pause, stay_apart};
 use crate::receiver::AckReceiver;
 use crate::same_end::SameEnd;
-use crate::sending::{Surroundings, send_all};
+use crate::sender_telling::Telling;
+use crate::sender_thread::SenderThread;
+use crate::sending::send_all;
 use greeting::Greeting;
 use kv_types::Refusal;
 use marks::ThreadMarks;
 use model::Group;
-use node_log::{Log, Lost, News, RefusedLinks, Throttle};
+use node_log::{Log, Lost, News};
 use pipes::RingInlet;
 use standby_stream::Outgoing;
 use std::alloc::Global;
 use std::io::Write;
 use std::net::{Net, Shutdown, TcpStream};
 use std::snapshot::Snapshot;
-use std::sync::{Arc, Wait};
+use std::sync::Wait;
+use std::thread;
 use std::thread::Threads;
-use std::time::{Clock, Duration};
-use std::{io, thread};
-use stream_codec::Decoder;
-use wakes::{Flag, Sleeper, Waker};
+use std::time::Clock;
 
 /// How long the link waits at least and at most before it is opened again, in pauses of 100 milliseconds: doubled each time that nothing came of it.
 const FIRST_PAUSES: u32 = 1;
 
 const MOST_PAUSES: u32 = 20;
-
-const PAUSE_MILLISECONDS: u64 = 100;
-
-/// How long a node whose standby is ahead waits at least and at most before it says so again, in such pauses: doubled each time.
-const FIRST_TELLING_PAUSES: u32 = 10;
-
-const MOST_TELLING_PAUSES: u32 = 6_000;
 
 /// What the link's sender owns.
 #[derive(Drop)]
@@ -57,66 +54,12 @@ pub struct LinkSender {
     pub outgoing: Outgoing,
     /// The groups that were committed.
     pub groups: RingInlet<Group>,
-    /// Where this thread sleeps.
-    pub sleeper: Sleeper,
-    /// Wakes the node's thread, which waits for room in the ring of groups.
-    pub node: Waker,
-    /// Set by the receiver once the connection brings nothing more.
-    pub is_broken: Arc<Flag>,
+    /// Where it asks the node's thread for copies.
+    pub desk: CopyDesk,
+    /// What its thread stands on.
+    pub thread: SenderThread,
     /// The marks, of which it reads the remote one.
     pub marks: ThreadMarks,
-    /// How often it gives way before it sleeps.
-    pub spin: u32,
-}
-
-/// A connection whose standby said where it is.
-#[derive(Drop)]
-struct Opened {
-    /// Where the standby is.
-    position: u64,
-    stream: Arc<TcpStream>,
-    theirs: Arc<TcpStream>,
-    decoder: Decoder,
-}
-
-/// What a sender tells, and what it remembers of links that ended.
-#[derive(Drop)]
-struct Telling<W> {
-    log: Log<W>,
-    refused: RefusedLinks,
-    /// Why no link came up, as it was told since the last one was open.
-    told: Option<Lost>,
-    /// How often it is told that the standby is behind what it had acknowledged.
-    behind: Throttle,
-    /// How often it is told that it belongs to another pair, and that it is of a release that does not link with this one.
-    other_pair: Throttle,
-    other_release: Throttle,
-}
-
-impl<W: Write> Telling<W> {
-    /// A link is open to the standby at this address and position.
-    fn tell_open(&mut self, address: &str, position: u64) {
-        self.told = None;
-        self.log.say(News::LinkOpen { address, position });
-    }
-
-    /// No link comes up: that is told where the reason is another one than before. What is to be done where the standby lacks what this node cannot send, or
-    /// where the two may not link, is told at once, and then ever more seldom.
-    fn tell_none<C: Clock>(&mut self, clock: &C, address: &str, why: Lost) {
-        if self.told != Some(why) {
-            self.told = Some(why);
-            self.log.say(News::NoLink { address, why });
-        }
-        if why == Lost::Refused(Refusal::PositionGap) && self.behind.is_due(clock) {
-            self.log.say(News::StandbyBehind { address });
-        }
-        if why == Lost::Refused(Refusal::WrongPair) && self.other_pair.is_due(clock) {
-            self.log.say(News::OtherPair { address });
-        }
-        if why == Lost::Refused(Refusal::WrongLink) && self.other_release.is_due(clock) {
-            self.log.say(News::OtherRelease { address });
-        }
-    }
 }
 
 impl LinkSender {
@@ -126,11 +69,9 @@ impl LinkSender {
         pair: u64,
         outgoing: Outgoing,
         groups: RingInlet<Group>,
-        sleeper: Sleeper,
-        node: Waker,
-        is_broken: Arc<Flag>,
+        desk: CopyDesk,
+        thread: SenderThread,
         marks: ThreadMarks,
-        spin: u32,
     ) -> LinkSender
         ensures pair { result.pair ≡ pair }
         ensures outgoing { result.outgoing ≡ outgoing }
@@ -142,11 +83,9 @@ impl LinkSender {
             pair,
             outgoing,
             groups,
-            sleeper,
-            node,
-            is_broken,
+            desk,
+            thread,
             marks,
-            spin,
         }
     }
 
@@ -169,14 +108,7 @@ impl LinkSender {
         requires { AreOfOneEpoch self receiver }
     {
         let mut own = self;
-        let mut telling = Telling {
-            log,
-            refused: RefusedLinks::new(),
-            told: None,
-            behind: Throttle::new(),
-            other_pair: Throttle::new(),
-            other_release: Throttle::new(),
-        };
+        let mut telling = Telling::new(log);
         own.serve_links(&rt, alloc, receiver, &mut telling);
         stay_apart(&rt, &mut telling.log);
     }
@@ -230,7 +162,8 @@ impl LinkSender {
                 (receiver, got_on)
             }
             Err(why) => {
-                telling.tell_none(rt, self.address.as_str(), why);
+                let own = self.epoch();
+                telling.tell_none(rt, self.address.as_str(), own, why);
                 (receiver, false)
             }
         }
@@ -249,30 +182,30 @@ impl LinkSender {
         ensures epoch { AreOfOneEpoch self.new result.0 }
         ensures stays { StaysFinal receiver result.0 }
         ensures heard { HasHeardBehind receiver opened.decoder result.0 }
-        ensures sends { GoesOut self.old self.new }
+        ensures sends { GoesTo opened.peer self.old self.new }
         ensures got_on { IsTrue result.1 ↔ ((self.old.outgoing.link).known < (self.new.outgoing.link).known) }
     {
         let known = self.outgoing.known();
         let Opened {
-            position,
+            peer,
             stream,
             theirs,
             decoder,
         } = opened;
-        telling.tell_open(self.address.as_str(), position);
-        self.is_broken.take();
+        telling.tell_peer(rt, self.address.as_str(), peer);
+        self.thread.flags.clear();
         let same = SameEnd {
             receiver: Snapshot::of(&receiver),
             decoder: Snapshot::of(&decoder),
         };
         match thread::spawn_with(rt, same, move || receiver.run(alloc, theirs, decoder)) {
             Ok(child) => {
-                let (has_sent, why) = self.send_on(rt, alloc, &stream);
+                let (has_sent, why) = self.send_to(rt, alloc, peer, &stream, telling);
                 let _ = stream.shutdown(Shutdown::Both);
                 let address = self.address.as_str();
                 let reached = self.outgoing.known();
                 let got_on = reached > known;
-                let is_refused = has_sent && !got_on && why.is_by_peer();
+                let is_refused = peer.follows() && has_sent && !got_on && why.is_by_peer();
                 telling.log.say(News::LinkLost { address, why });
                 telling
                     .refused
@@ -291,6 +224,102 @@ impl LinkSender {
         }
     }
 
+    /// Sends to this peer until the link breaks. Answers whether it sent something, and why it ended.
+    fn send_to<R: Wait + Clock, W: Write>(
+        &mut self,
+        rt: &R,
+        alloc: Global,
+        peer: Peer,
+        stream: &TcpStream,
+        telling: &mut Telling<W>,
+    ) -> (bool, Lost)
+        ensures epoch { (self.new.outgoing.link).epoch ≡ (self.old.outgoing.link).epoch }
+        ensures sends { SendsTo peer result.1 self.old self.new }
+    {
+        match peer {
+            Peer::Standby(_) => {
+                if self.desk.release() {
+                    self.thread.node.wake();
+                }
+                self.send_on(rt, alloc, stream)
+            }
+            Peer::Newcomer => self.give_and_send(rt, alloc, stream, telling),
+        }
+    }
+
+    /// Gives a newcomer its copy, and then sends what is due, as to a standby, until the link breaks. Answers whether it sent something, and why it ended.
+    fn give_and_send<R: Wait + Clock, W: Write>(
+        &mut self,
+        rt: &R,
+        alloc: Global,
+        stream: &TcpStream,
+        telling: &mut Telling<W>,
+    ) -> (bool, Lost)
+        ensures epoch { (self.new.outgoing.link).epoch ≡ (self.old.outgoing.link).epoch }
+        ensures sends { GivesAndSends result.1 self.old self.new }
+    {
+        let (has_sent, given) = self.give(rt, alloc, stream, telling);
+        if let Err(why) = given {
+            self.release_unpinned();
+            let is_refused = has_sent && why.is_by_peer();
+            let address = self.address.as_str();
+            telling
+                .copy
+                .note_end(rt, &mut telling.log, address, is_refused);
+            return (has_sent, why);
+        }
+        let address = self.address.as_str();
+        telling.copy.end(rt, &mut telling.log, address);
+        self.desk.release();
+        self.thread.node.wake();
+        let (_, why) = self.send_on(rt, alloc, stream);
+        (true, why)
+    }
+
+    /// Says that no copy is wanted any more, where none could be pinned on the link that has ended: so the next link gets a new one, and not one behind which
+    /// more groups have come than are kept.
+    fn release_unpinned(&mut self)
+        ensures { KeepsAll self.old self.new }
+    {
+        if self.outgoing.copying().is_awaited() && self.desk.release() {
+            self.thread.node.wake();
+        }
+    }
+
+    /// Asks for a copy and gives it to the newcomer, until that has acknowledged it. Answers whether something was sent.
+    ///
+    /// # Errors
+    ///
+    /// Why the link ended before that. It is to be asked for anew on the next link.
+    fn give<R: Wait + Clock, W: Write>(
+        &mut self,
+        rt: &R,
+        alloc: Global,
+        stream: &TcpStream,
+        telling: &mut Telling<W>,
+    ) -> (bool, Result<(), Lost>)
+        ensures epoch { (self.new.outgoing.link).epoch ≡ (self.old.outgoing.link).epoch }
+        ensures gives { GivesCopy self.old self.new }
+        ensures follows { OnOk result.1 ((self.new.outgoing.link).copying ≡ Follows) }
+    {
+        let attempt = self.desk.ask();
+        self.thread.node.wake();
+        let around = self.thread.around();
+        give_copy(
+            rt,
+            alloc,
+            &mut self.outgoing,
+            &mut self.marks,
+            &mut self.groups,
+            &mut self.desk.copies,
+            attempt,
+            around,
+            telling,
+            self.address.as_str(),
+            &mut &*stream,
+        )
+    }
+
     /// Sends what is due until the link breaks. Answers whether it sent something, and why it ended.
     fn send_on<R: Wait + Clock>(
         &mut self,
@@ -301,12 +330,7 @@ impl LinkSender {
         ensures epoch { (self.new.outgoing.link).epoch ≡ (self.old.outgoing.link).epoch }
         ensures sends { SendsOnLink result.1 self.old self.new }
     {
-        let around = Surroundings {
-            is_broken: &self.is_broken,
-            sleeper: &self.sleeper,
-            node: &self.node,
-            spin: self.spin,
-        };
+        let around = self.thread.around();
         send_all(
             rt,
             alloc,
@@ -318,8 +342,8 @@ impl LinkSender {
         )
     }
 
-    /// Opens a link: both sides greet, and then the standby says where it is, which counts as any other acknowledgement. Where the two may not link, nothing
-    /// but the greetings goes either way.
+    /// Opens a link: both sides greet, and then the standby says where it is, which counts as any other acknowledgement, or a newcomer that it wants a copy. Where
+    /// the two may not link, nothing but the greetings goes either way.
     fn open<R: Net<Stream = TcpStream>>(
         &mut self,
         rt: &R,
@@ -329,14 +353,14 @@ impl LinkSender {
         ensures epoch { AreOfOneEpoch self.old receiver.old → AreOfOneEpoch self.new receiver.new }
         ensures stays { StaysFinal receiver.old receiver.new }
         ensures behind { OnOk result (receiver.old.standing ≡ Behind) }
-        ensures opened { IfOk result (λ opened. (ack : Told) × (bytes : Option (List ℕ)) × (left : Option (List ℕ)) × SaysFirst bytes left ack opened.decoder
-            × (opened.position ≡ ack.position) × Opens ack receiver.old receiver.new self.old.outgoing self.new.outgoing) }
+        ensures opened { IfOk result (λ opened. (bytes : Option (List ℕ)) × (left : Option (List ℕ))
+            × OpensTo bytes left opened.peer opened.decoder receiver.old receiver.new self.old.outgoing self.new.outgoing) }
         ensures greeted { OnOk result ((theirs : Said) × (bytes : Option (List ℕ)) × (left : Option (List ℕ)) × (before : Option (List ℕ)) × (after : Option (List ℕ))
             × Greets (greeting_of self.old.pair) theirs bytes left before after) }
         ensures lost { OnErr result (HearsLink receiver.old receiver.new) }
         ensures touches { TouchesNeither self.old self.new }
         // it is open where no memory was left to share the connection
-        ensures left { OnErr result (KeepsAll self.old self.new ⊎ ((ack : Told) × Opens ack receiver.old receiver.new self.old.outgoing self.new.outgoing)) }
+        ensures left { OnErr result (KeepsAll self.old self.new ⊎ OpensOrAwaits receiver.old receiver.new self.old.outgoing self.new.outgoing) }
     {
         let dialed = dial(rt, &self.address);
         let why = why_not(&dialed);
@@ -352,7 +376,7 @@ impl LinkSender {
             &mut &stream,
             &mut &stream,
         );
-        let (position, decoder) = match opened {
+        let (peer, decoder) = match opened {
             Ok(opened) => opened,
             Err(why) => {
                 if why == Lost::Refused(Refusal::PositionGap) {
@@ -361,42 +385,9 @@ impl LinkSender {
                 return Err(why);
             }
         };
-        match share(alloc, stream, decoder, position) {
+        match share(alloc, stream, decoder, peer) {
             Ok(opened) => Ok(opened),
             Err(_) => Err(Lost::Ended),
         }
     }
-}
-
-/// Tells for good that the standby is ahead: at first each second, then ever more seldom.
-fn stay_apart<R: Wait + Clock, W: Write>(rt: &R, log: &mut Log<W>) {
-    let mut pauses = FIRST_TELLING_PAUSES;
-    for _ in rt.forever() {
-        log.say(News::StandbyAhead);
-        pause(rt, pauses);
-        pauses = pauses.saturating_mul(2).min(MOST_TELLING_PAUSES);
-    }
-}
-
-/// Lets so many pauses pass.
-fn pause<R: Clock>(rt: &R, pauses: u32) {
-    for _ in 0..pauses {
-        thread::sleep(rt, Duration::from_millis(PAUSE_MILLISECONDS));
-    }
-}
-
-/// The connection for two threads. An acknowledgement may come at any time from now on.
-fn share(alloc: Global, stream: TcpStream, decoder: Decoder, position: u64) -> io::Result<Opened>
-    ensures position { IfOk result (λ opened. opened.position ≡ position) }
-    ensures decoder { IfOk result (λ opened. opened.decoder ≡ decoder) }
-{
-    stream.set_read_timeout(None)?;
-    let stream = Arc::new(alloc, stream)?;
-    let theirs = Arc::try_clone(&stream)?;
-    Ok(Opened {
-        position,
-        stream,
-        theirs,
-        decoder,
-    })
 }

@@ -4,10 +4,12 @@ ghost use Rattle.kv_types.specs.declared.refusal.Refusal.TheVariants.{Memory};
 ghost use Rattle.model.specs.declared.group.Group.{Group as Item};
 ghost use Rattle.frames.specs.declared.frame.Frame.{Frame as Kept};
 ghost use Rattle.standby_stream.specs.Sent.{Grows, MaySend, between};
+ghost use Rattle.standby_stream.specs.declared.copying.Copying.TheVariants.{Follows};
 ghost use Rattle.standby_stream.specs.Stream.{IsDue, Frames, TakesNext, acknowledged};
 ghost use Rattle.links.specs.Sending.{HasSent, Sends, Step, Waits, WorksOff, delta_text, frame_text, frames_text};
 ghost use Rattle.node_log.specs.declared.log.Lost.TheVariants.{Ended, Refused};
 
+use crate::link_flags::LinkFlags;
 use crate::writing::write_put;
 use frames::Frame;
 use kv_types::Refusal;
@@ -21,7 +23,7 @@ use std::io::Write;
 use std::sync::Wait;
 use std::time::Clock;
 use stream_codec::write_group;
-use wakes::{Flag, Idle, Sleeper, Waker};
+use wakes::{Idle, Sleeper, Waker};
 
 /// How many frames are put together before they are written.
 const FRAMES_AT_ONCE: u32 = 16;
@@ -59,7 +61,7 @@ pub fn put_next<I: Inlet<Item = Group>>(
     ensures refused { OnErr result (out.new.items ≡ out.old.items) }
     ensures sends { IfOk result (λ given. MaySend outgoing.old.link given outgoing.new.link) }
     ensures step { (sent : List Kept) × Step I.take_gives outgoing.old.link groups.old sent outgoing.new.link groups.new × OnOk result (out.new.items ≡ out.old.items ++ frames_text sent) }
-    ensures again { (outgoing.old.link).next < length (outgoing.old.link).kept → IfOk result (λ given. (given ≡ Some (outgoing.old.link).next)
+    ensures again { (outgoing.old.link).copying ≡ Follows → (outgoing.old.link).next < length (outgoing.old.link).kept → IfOk result (λ given. (given ≡ Some (outgoing.old.link).next)
         × (outgoing.new.link ≡ record outgoing.old.link { next = (outgoing.old.link).next + 1 }) × (groups.new ≡ groups.old)) }
     // it puts none only where there is none
     ensures rests { result ≡ Ok None → Waits I.take_gives outgoing.old.link groups.old groups.new }
@@ -123,11 +125,11 @@ fn put_due<I: Inlet<Item = Group>>(
     put_frames(outgoing, alloc, groups, out)
 }
 
-/// Where a link's sender sleeps, whom it wakes, and what tells it that the link has ended.
+/// Where a link's sender sleeps, whom it wakes, and what the receiver tells it of the connection.
 #[derive(Clone, Copy)]
 pub(crate) struct Surroundings<'a> {
-    /// Set once the connection brings nothing more.
-    pub(crate) is_broken: &'a Flag,
+    /// What the receiver tells.
+    pub(crate) flags: &'a LinkFlags,
     /// Where the sender's thread sleeps.
     pub(crate) sleeper: &'a Sleeper,
     /// Wakes the node's thread, which waits for room in the ring of groups.
@@ -160,7 +162,7 @@ pub(crate) fn send_all<R: Wait + Clock, I: Inlet<Item = Group>, O: Write>(
         return (has_sent, why);
     }
     for _ in rt.forever() {
-        if around.is_broken.is_set() {
+        if around.flags.is_broken.is_set() {
             return (has_sent, Lost::Ended);
         }
         if let Err(refusal) = put_due(outgoing, alloc, marks, groups, &mut out) {
@@ -178,14 +180,19 @@ pub(crate) fn send_all<R: Wait + Clock, I: Inlet<Item = Group>, O: Write>(
 }
 
 /// Wakes the node's thread where groups were taken: there is room for more, whatever becomes of the frames.
-fn wake_for(is_due: bool, node: &Waker) {
+pub(crate) fn wake_for(is_due: bool, node: &Waker) {
     if is_due {
         node.wake();
     }
 }
 
 /// Waits where nothing was due.
-fn rest_after<R: Wait + Clock>(rt: &R, is_due: bool, idle: &mut Idle, sleeper: &Sleeper) {
+pub(crate) fn rest_after<R: Wait + Clock>(
+    rt: &R,
+    is_due: bool,
+    idle: &mut Idle,
+    sleeper: &Sleeper,
+) {
     if is_due {
         idle.busy();
     } else {

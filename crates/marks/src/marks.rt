@@ -6,7 +6,7 @@ use crate::rule::{FindHeard, FindLocal, FindRemote, Hear, MarkRule, RaiseLocal, 
 use crate::seat::MarkSeat;
 use crate::view::{Both, Cut, Halves, MarkView};
 use atomic_table::Table;
-use frames::Ack;
+use frames::{Ack, CopyWanted};
 use kv_types::{Refusal, Seen};
 use std::alloc::Global;
 use std::marker::Model;
@@ -127,6 +127,27 @@ impl Marks {
 
     /// The standby was heard: it has acknowledged something, perhaps position 0. The heard word is 1 from now on. The seat is the link's.
     pub fn hear(&self, seat: &mut MarkSeat, _ack: &Ack)
+        requires marks { seat.old.marks ≡ self.now }
+        requires raises { seat.old.knows.raises_remote ≡ true }
+        ensures marks { seat.new.marks ≡ seat.old.marks }
+        ensures knows { seat.new.knows ≡ record seat.old.knows { heard = 1 } }
+    {
+        self.note_heard(seat);
+    }
+
+    /// A newcomer was heard, which wants a copy: then no standby is left that could be ahead of this node. The heard word is 1 from now on. The seat is the
+    /// link's.
+    pub fn hear_newcomer(&self, seat: &mut MarkSeat, _wanted: &CopyWanted)
+        requires marks { seat.old.marks ≡ self.now }
+        requires raises { seat.old.knows.raises_remote ≡ true }
+        ensures marks { seat.new.marks ≡ seat.old.marks }
+        ensures knows { seat.new.knows ≡ record seat.old.knows { heard = 1 } }
+    {
+        self.note_heard(seat);
+    }
+
+    /// The heard word is 1 from now on.
+    fn note_heard(&self, seat: &mut MarkSeat)
         requires marks { seat.old.marks ≡ self.now }
         requires raises { seat.old.knows.raises_remote ≡ true }
         ensures marks { seat.new.marks ≡ seat.old.marks }

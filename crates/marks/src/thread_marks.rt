@@ -4,7 +4,7 @@ ghost use Rattle.std.specs.Arc.{arc_value};
 
 use crate::marks::Marks;
 use crate::seat::MarkSeat;
-use frames::Ack;
+use frames::{Ack, CopyWanted};
 use kv_types::Seen;
 use std::marker::Model;
 use std::sync::Arc;
@@ -81,5 +81,13 @@ impl ThreadMarks {
     {
         self.marks.raise_remote(&mut self.seat, ack);
         self.marks.hear(&mut self.seat, &ack)
+    }
+
+    /// A newcomer was heard, which wants a copy. The marks stay. The thread is the link's.
+    pub fn hear_newcomer(&mut self, wanted: &CopyWanted)
+        requires { self.old.raises_remote ≡ true }
+        ensures { self.new ≡ record self.old { heard = 1 } }
+    {
+        self.marks.hear_newcomer(&mut self.seat, wanted)
     }
 }

@@ -24,3 +24,4 @@ pub mod GatheringLemmas
 pub mod PastLemmas
 pub mod NotedLemmas
 pub mod ShownLemmas
+pub mod PagingLemmas

@@ -61,7 +61,7 @@ where-both p q table sorted =
     either false true cell = refl
     either false false cell = refl
 
-where-same : (p q : RecordId → Bool) (table : Table) → ((id : RecordId) → p id ≡ q id) → where_key record_cmp p table ≡ where_key record_cmp q table
+pub where-same : (p q : RecordId → Bool) (table : Table) → ((id : RecordId) → p id ≡ q id) → where_key record_cmp p table ≡ where_key record_cmp q table
 where-same p q [] same = refl
 where-same p q (row ∷ table) same = grind (arith, same row.0, where-same p q table same)
 

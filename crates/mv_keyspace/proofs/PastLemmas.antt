@@ -52,6 +52,15 @@ versions-next [] i item lt is = absurd (omega arith)
 versions-next (first ∷ ended) zero item lt is = ap (λ (e : Ended). version_of e ∷ []) (sym is)
 versions-next (first ∷ ended) (suc i) item lt is = ap (λ vs. version_of first ∷ vs) (versions-next ended i item (omega arith) is)
 
+-- what is shown with one version more
+pub past-more : (at : ℕ) (ended : List Ended) (i : ℕ) (item : Ended) → i < length ended → item ≡ get_or ended i item
+    → with_past at (versions_of (take (i + 1) ended)) []
+    ≡ cond (is_shown at (version_of item).1) (with_cell item.row.id (cell_of_row item.row) (with_past at (versions_of (take i ended)) [])) (with_past at (versions_of (take i ended)) [])
+past-more at ended i item lt is =
+    ap (λ n. with_past at (versions_of (take n ended)) []) (add-one i)
+    ∙ ap (λ vs. with_past at vs []) (versions-next ended i item lt is)
+    ∙ with_past-last at (versions_of (take i ended)) (version_of item) []
+
 -- what one version more shows of a record
 pub shown-more : (at : ℕ) (ended : List Ended) (i : ℕ) (item : Ended) (id : RecordId) → i < length ended → item ≡ get_or ended i item
     → cell_at (with_past at (versions_of (take (i + 1) ended)) []) id

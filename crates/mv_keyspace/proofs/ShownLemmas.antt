@@ -40,11 +40,11 @@ below-begun_at : (at : ℕ) (id : RecordId) (table : Table) → IsTrue (below_al
 below-begun_at at id [] below = refl
 below-begun_at at id (row ∷ table) below = grind (arith, below-begun_at at id table)
 
-sorted-begun_at : (at : ℕ) (table : Table) → IsSortedTable table → IsSortedTable (begun_at at table)
+pub sorted-begun_at : (at : ℕ) (table : Table) → IsSortedTable table → IsSortedTable (begun_at at table)
 sorted-begun_at at [] sorted = refl
 sorted-begun_at at (row ∷ table) sorted = grind (arith, sorted-begun_at at table, below-begun_at at row.0 table)
 
-sorted-with_past : (at : ℕ) (past : Versions) (table : Table) → IsSortedTable table → IsSortedTable (with_past at past table)
+pub sorted-with_past : (at : ℕ) (past : Versions) (table : Table) → IsSortedTable table → IsSortedTable (with_past at past table)
 sorted-with_past at [] table sorted = sorted
 sorted-with_past at (version ∷ past) table sorted =
     sorted-with_past at past (cond (is_shown at version.1) (with_cell version.0 version.1.cell table) table) (either (is_shown at version.1))

@@ -6,3 +6,4 @@ pub mod Slot
 pub mod Slots
 pub mod Loading
 pub mod Versions
+pub mod Paging

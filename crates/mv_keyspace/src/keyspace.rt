@@ -1,8 +1,10 @@
 //! The keyspace as a sequencer and a standby see it.
 ghost use Rattle.std.specs.Prelude.{◌≡◌, ℕ, ◌+◌, ◌-◌, ◌^◌, ◌<◌, ◌++◌, [], ◌∷◌, List, length, max, min, Contains, None, Some, OnOk, OnErr, IfErr, IfOk, MatchOption};
+ghost use Rattle.std.specs.Option.{option_copied};
 ghost use Rattle.kv_types.specs.declared.place.EntryNo.{EntryNo};
 ghost use Rattle.kv_types.specs.declared.refusal.Refusal.TheVariants.{Memory};
 ghost use Rattle.mv_keyspace.specs.Loading.{AreCompatible, HasRows};
+ghost use Rattle.mv_keyspace.specs.Paging.{page, rows_after};
 ghost use Rattle.mv_keyspace.specs.Row.{table_of};
 ghost use Rattle.mv_keyspace.specs.Table.{Table, cell_at, records, place_all, puts_of, since, AreEnded, AreFresh, IsLawful};
 ghost use Rattle.mv_keyspace.specs.Version.{cell_of_shown};
@@ -106,6 +108,19 @@ pub trait Keyspace: Lookup {
     /// keyspace. Refused with `Memory` where a growth was refused.
     fn view_since(&self, alloc: Global, pin: &Pin, from: u64) -> Result<Vec<Row>, Refusal>
         ensures ok { IfOk result (λ rows. table_of rows.items ≡ since from (shown pin.now.position (table self.now) (past self.now))) }
+        ensures cause { IfErr result (λ refusal. refusal ≡ Memory) };
+
+    /// The next versions that a pin shows, behind this record (all, where there is none), in the order of records: as many as have together at most so
+    /// many bytes as puts of a frame, and one at least where there is any. They share their bytes with the keyspace. Refused with `Memory` where a
+    /// growth was refused.
+    fn view_page(
+        &self,
+        alloc: Global,
+        pin: &Pin,
+        after: Option<&RecordId>,
+        bytes: u64,
+    ) -> Result<Vec<Row>, Refusal>
+        ensures ok { IfOk result (λ rows. table_of rows.items ≡ page bytes (rows_after (option_copied after.entry) (shown pin.now.position (table self.now) (past self.now)))) }
         ensures cause { IfErr result (λ refusal. refusal ≡ Memory) };
 
     /// Takes a pin back. The versions that it alone showed are held until they are reclaimed.

@@ -15,6 +15,7 @@ use crate::gathering::{find_row, put_begun, put_ended};
 use crate::live::Live;
 use crate::loading::sort_rows;
 use crate::making::{make_change, stage};
+use crate::page_rows::PageRows;
 use crate::row::Row;
 use crate::sharing::rows_since;
 use crate::shown::Shown;
@@ -140,6 +141,18 @@ impl Live for ListRows {
 
     fn put_begun(&self, position: u64, rows: &mut BTreeMap<RecordId, Row>) -> Result<(), Refusal> {
         Ok(put_begun(rows, &self.rows, position)?)
+    }
+
+    fn begun_after(
+        &self,
+        alloc: Global,
+        position: u64,
+        after: Option<&RecordId>,
+        bytes: u64,
+    ) -> Result<Vec<Row>, Refusal> {
+        let mut page = PageRows::new(alloc, bytes);
+        page.take_after(&self.rows, position, after)?;
+        Ok(page.into_rows())
     }
 
     fn count(&self) -> u64 {

@@ -1,8 +1,10 @@
 //! The live records of a keyspace, as one of its kinds keeps them.
 ghost use Rattle.std.specs.Prelude.{◌≡◌, None, Some, ◌++◌, ◌-◌, ◌^◌, [], List, length, min, OnOk, OnErr, IfErr, IfOk, MatchOption};
+ghost use Rattle.std.specs.Option.{option_copied};
 ghost use Rattle.kv_types.specs.declared.place.EntryNo.{EntryNo};
 ghost use Rattle.kv_types.specs.declared.refusal.Refusal.TheVariants.{Memory};
 ghost use Rattle.mv_keyspace.specs.Loading.{AreCompatible, HasRows};
+ghost use Rattle.mv_keyspace.specs.Paging.{filled, rows_after};
 ghost use Rattle.mv_keyspace.specs.Row.{table_of};
 ghost use Rattle.mv_keyspace.specs.Table.{Table, cell_at, records, place_all, puts_of, since, AreEnded, AreFresh, IsLawful};
 ghost use Rattle.mv_keyspace.specs.Version.{cell_of_shown};
@@ -74,6 +76,18 @@ pub trait Live: Lookup {
     /// Puts the live rows in that had begun at a position, each in the place of one of its record. Refused with `Memory` where a growth was refused.
     fn put_begun(&self, position: u64, rows: &mut BTreeMap<RecordId, Row>) -> Result<(), Refusal>
         ensures ok { OnOk result (table_in rows.new.entries ≡ with_rows (begun_at position (table self.now)) (table_in rows.old.entries)) }
+        ensures cause { IfErr result (λ refusal. refusal ≡ Memory) };
+
+    /// The next live rows that had begun at a position, behind this record (all, where there is none), in the order of records, until they have more
+    /// than so many bytes together as puts of a frame. They share their bytes with the keyspace. Refused with `Memory` where a growth was refused.
+    fn begun_after(
+        &self,
+        alloc: Global,
+        position: u64,
+        after: Option<&RecordId>,
+        bytes: u64,
+    ) -> Result<Vec<Row>, Refusal>
+        ensures ok { IfOk result (λ rows. table_of rows.items ≡ filled bytes [] (begun_at position (rows_after (option_copied after.entry) (table self.now)))) }
         ensures cause { IfErr result (λ refusal. refusal ≡ Memory) };
 
     /// How many records are live, or 2^64 - 1 if there are more.

@@ -1,12 +1,17 @@
 //! The versions that ended while a position was pinned.
-ghost use Rattle.std.specs.Prelude.{◌≡◌, false, None, Some, ℕ, ◌+◌, ◌<◌, ◌≤◌, ◌++◌, [], ◌∷◌, List, map, length, max, IsTrue, OnOk, OnErr, IfOk, MatchOption, vec_len, vec_capacity};
+ghost use Rattle.std.specs.Prelude.{◌≡◌, ◌&&◌, false, None, Some, ℕ, ◌+◌, ◌<◌, ◌≤◌, ◌++◌, [], ◌∷◌, List, map, length, max, IsTrue, OnOk, OnErr, IfOk, MatchOption, vec_len, vec_capacity};
 ghost use Rattle.std.specs.List.{AllByRecursion, remove};
+ghost use Rattle.std.specs.FinMap.Entries.{where_key};
+ghost use Rattle.std.specs.Option.{option_copied};
+ghost use Rattle.kv_types.specs.Keyspace.{record_cmp};
+ghost use Rattle.mv_keyspace.specs.Paging.{is_within};
 ghost use Rattle.mv_keyspace.specs.Row.{table_of};
 ghost use Rattle.mv_keyspace.specs.Table.{cell_at};
 ghost use Rattle.mv_keyspace.specs.Version.{cell_of_shown};
 ghost use Rattle.mv_keyspace.specs.Versions.{ended_at, is_pinned, is_shown, last_among, past_of, pins_of, reclaimed, table_in, version_of, with_past, without_pin};
 
 use crate::gathering::put_shared;
+use crate::paging::{is_after, is_until};
 use crate::pin::Pin;
 use crate::row::Row;
 use crate::shown::Shown;
@@ -27,6 +32,18 @@ impl Ended {
         ensures { result ≡ is_shown position (version_of self.now).1 }
     {
         self.row.position <= position && position < self.end
+    }
+
+    /// Whether the version is shown at this position, and its record comes behind the one and not behind the other.
+    fn is_shown_within(
+        &self,
+        position: u64,
+        after: Option<&RecordId>,
+        until: Option<&RecordId>,
+    ) -> bool
+        ensures { result ≡ (is_shown position (version_of self.now).1 && is_within (option_copied after.entry) (option_copied until.entry) self.now.row.id) }
+    {
+        self.is_shown(position) && is_after(after, &self.row.id) && is_until(until, &self.row.id)
     }
 
     /// Whether one of these positions shows the version.
@@ -204,6 +221,26 @@ impl Past {
             }
         }
         Ok(())
+    }
+
+    /// The versions that are shown at this position, each in the place of an earlier one of its record, and whose records come behind the one and not
+    /// behind the other.
+    pub(crate) fn shown_within(
+        &self,
+        alloc: Global,
+        position: u64,
+        after: Option<&RecordId>,
+        until: Option<&RecordId>,
+    ) -> Result<BTreeMap<RecordId, Row>, AllocError>
+        ensures { IfOk result (λ rows. table_in rows.entries ≡ where_key record_cmp (is_within (option_copied after.entry) (option_copied until.entry)) (with_past position (past_of self.now) [])) }
+    {
+        let mut rows = BTreeMap::new(alloc);
+        for ended in &self.ended {
+            if ended.is_shown_within(position, after, until) {
+                put_shared(&mut rows, &ended.row)?;
+            }
+        }
+        Ok(rows)
     }
 }
 

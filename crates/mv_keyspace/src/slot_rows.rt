@@ -12,6 +12,7 @@ use crate::gathering::{put_begun_of, put_ended_in};
 use crate::key_bytes::KeyBytes;
 use crate::live::Live;
 use crate::loading::sort_rows;
+use crate::page_rows::PageRows;
 use crate::reading::{count_fields_in, count_in, field_in, fields_in, find_in, has_in, string_in};
 use crate::row::Row;
 use crate::sharing::rows_in_since;
@@ -181,6 +182,18 @@ impl Live for SlotRows {
             put_begun_of(rows, entry.0, entry.1, position)?;
         }
         Ok(())
+    }
+
+    fn begun_after(
+        &self,
+        alloc: Global,
+        position: u64,
+        after: Option<&RecordId>,
+        bytes: u64,
+    ) -> Result<Vec<Row>, Refusal> {
+        let mut page = PageRows::new(alloc, bytes);
+        page.take_all(&self.slots, position, after)?;
+        Ok(page.into_rows())
     }
 
     fn count(&self) -> u64 {

@@ -8,6 +8,8 @@ ghost use Rattle.mv_keyspace.specs.Versions.{ended_at, kept, past_of, pins_of, t
 use crate::keyspace::Keyspace;
 use crate::list_rows::ListRows;
 use crate::live::Live;
+use crate::overlaying::overlaid;
+use crate::paging::{last_of_full, page_of};
 use crate::past::Past;
 use crate::pin::Pin;
 use crate::row::Row;
@@ -153,6 +155,19 @@ impl<L: Live> Keyspace for Versioned<L> {
         self.past.put_shown(pin.position, &mut shown)?;
         self.live.put_begun(pin.position, &mut shown)?;
         rows_of(alloc, shown, from)
+    }
+
+    fn view_page(
+        &self,
+        alloc: Global,
+        pin: &Pin,
+        after: Option<&RecordId>,
+        bytes: u64,
+    ) -> Result<Vec<Row>, Refusal> {
+        let live = self.live.begun_after(alloc, pin.position, after, bytes)?;
+        let until = last_of_full(&live, bytes);
+        let past = self.past.shown_within(alloc, pin.position, after, until)?;
+        Ok(page_of(overlaid(alloc, past, live)?, bytes))
     }
 
     fn unpin(&mut self, pin: Pin) {

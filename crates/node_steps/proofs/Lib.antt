@@ -16,5 +16,6 @@ pub mod GroupActs
 pub mod CommitterTurns
 pub mod FrontActs
 pub mod SeatActs
+pub mod CopyActs
 pub mod OpeningLemmas
 pub mod OrderLemmas

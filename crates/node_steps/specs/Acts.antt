@@ -33,10 +33,12 @@ pub data Act : Type 0 where
   Cleared : Act
   -- a connection that is open, and of which nothing was answered, was given this seat
   Seated : ℕ → ℕ → Act
+  -- what is kept of a copy for a newcomer moved on, by which the sequencer serves nothing else
+  Copied : Act
   -- this connection is over, and has no seat
   Left : ℕ → Act
 
--- the machine's event; none where a connection is given its seat, which is the thread's own
+-- the machine's event; none where a connection is given its seat, or a copy moves on, which are the thread's own
 abbrev pub event_of : Act → Option Event
 event_of (Turned c item) = Some (events.Turn c)
 event_of Closed = Some events.CloseGroup
@@ -47,6 +49,7 @@ event_of (Freed has_room remote) = Some events.Free
 event_of Told = Some events.AcceptFreed
 event_of Cleared = Some events.ClearGap
 event_of (Seated c seat) = None
+event_of Copied = None
 event_of (Left c) = Some (events.Leave c)
 
 abbrev pub events_of : List Act → List Event

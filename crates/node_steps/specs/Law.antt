@@ -16,7 +16,8 @@ use Rattle.model.specs.Standing.{Holder}
 use Rattle.wbl_engine.specs.declared.freeing.Freed.{Freed as Places}
 use Rattle.pipes.specs.Waiting.{Waiting}
 use Rattle.multi_watch.specs.Session.{idle_session}
-use Rattle.redis_core.specs.Sequencing.{MovesSeat, Sequencing, TakesBack}
+use Rattle.redis_core.specs.Copying.{CopyOf}
+use Rattle.redis_core.specs.Sequencing.{MovesCopy, MovesSeat, Sequencing, TakesBack}
 use Rattle.redis_core.specs.Turn.{Answers}
 use Rattle.group_commit.specs.Committing.{in_hand}
 use Rattle.group_commit.specs.Due.{due_now}
@@ -29,7 +30,7 @@ use Rattle.primary.specs.Resuming.{IsOver}
 use Rattle.connections.specs.Session.{HasSeat}
 use Rattle.machine.specs.Event.{Running, World, new_committer}
 use Rattle.machine.specs.Sound.{Sound}
-use Rattle.node_steps.specs.Acts.{Act, AreActs, Closed, GoesOn, IsAct, Left, Seated, Told, Turned, handed_by}
+use Rattle.node_steps.specs.Acts.{Act, AreActs, Closed, Copied, GoesOn, IsAct, Left, Seated, Told, Turned, handed_by}
 use Rattle.node_steps.specs.Clauses.{acts_of, node_of, noted}
 use Rattle.node_steps.specs.Committing.{EngineStands, Ready}
 use Rattle.node_steps.specs.Node.{Node, NodeRefines, past_of}
@@ -143,6 +144,10 @@ abbrev pub LeavingIsAnAct : Type 0
 LeavingIsAnAct =
     (node : Node) (c seat : ℕ) (s : Sequencing) → HasSeat node.seats c seat → MovesSeat node.sequencer seat None s
     → IsAct (Left c) node (with_seats (slice_set node.seats c None) s node)
+
+-- the copy that the sequencer keeps is another one, or none, and nothing else moved
+abbrev pub CopyingIsAnAct : Type 0
+CopyingIsAnAct = (node : Node) (copy : Option CopyOf) (s : Sequencing) → MovesCopy node.sequencer copy s → IsAct Copied node (with_answered s node)
 
 -- ---- others, and all together
 

@@ -3,6 +3,7 @@ ghost use Rattle.node_steps.specs.Law.{
   ActsGoOn,
   AnsweringIsAnAct,
   ClosingIsAnAct,
+  CopyingIsAnAct,
   LeavingIsAnAct,
   OpeningsStand,
   OthersChangeNothing,
@@ -51,6 +52,11 @@ pub fn answering_is_an_act()
 pub fn seats_are_acts()
     ensures given { SeatingIsAnAct }
     ensures over { LeavingIsAnAct }
+{}
+
+/// What the sequencer keeps of a copy for a newcomer is nothing of the machine's: that it moves on is no event.
+pub fn copying_is_an_act()
+    ensures { CopyingIsAnAct }
 {}
 
 /// Events of clients, connections, link and standby leave what the thread has that of the world, but that the link takes the oldest of what was handed on.

@@ -16,3 +16,4 @@ pub mod BelowLemmas
 pub mod EndedLemmas
 pub mod WithoutLemmas
 pub mod ShownLemmas
+pub mod LastLemmas

@@ -178,6 +178,12 @@ module _ (contents : Contents) (image : Image) (shows : Shows contents image) wh
       end_or_none end true e = inr e
       end_or_none end false e = inl refl
 
+  positions : (read : EntryNo × Entry) → Contains counted read → read.1.position ≤ r.position
+  positions read m =
+      let found = member-from_below (λ (other : EntryNo × Entry). other.0.0) (is_counted r image) (entry_made r image) (λ j. refl) count read
+      (subst (λ reads. Contains reads read) (counted_is r image count) m) in
+      subst (λ (other : EntryNo × Entry). other.1.position ≤ r.position) found.3 ((shows.rules.entries found.0 found.1).position found.2)
+
   -- ---- entries without a version
 
   gapped_member : (i : ℕ) → Contains (numbers_of gapped) i → (i < count) × (contents.is_free i ≡ false) × (contents.versions i ≡ None)
@@ -281,6 +287,7 @@ module _ (contents : Contents) (image : Image) (shows : Shows contents image) wh
     once = subst (λ reads. IsDistinct nat_eq (numbers_read reads)) (sym (counted_is r image count)) (numbers_distinct (λ (read : EntryNo × Entry). read.0.0) (is_counted r image) (entry_made r image) (λ i. refl) count);
     versions = λ i v. (λ is. read_from_version i v is, λ read. version_from_read i v read);
     ends = ends;
+    positions = positions;
     gapped_once = subst (λ entries. IsDistinct nat_eq (numbers_of entries)) (sym (gapped_is r image count)) (numbers_distinct (λ (entry : EntryNo). entry.0) (is_gapped r image) no_made (λ i. refl) count);
     gapped_are = λ i. (λ m. gapped_member i m, λ told. gapped_listed i told);
   }

@@ -63,13 +63,14 @@ pub record IsRead (current : Record) (counted : List (EntryNo × Entry)) (i : �
   pub listed : Contains counted (record { 0 = i }, entry)
   pub version_is : version_of current entry ≡ version
 
--- The lists are those of the contents: the first has each version, once, with an end that counts or is 0, and the second each entry of the directory
--- that was begun and has no version, once.
+-- The lists are those of the contents: the first has each version, once, with an end that counts or is 0, made at a position that the record has, and the
+-- second each entry of the directory that was begun and has no version, once.
 pub record AreOf (contents : Contents) (counted : List (EntryNo × Entry)) (gapped : List EntryNo) : Type 0 where
   pub lawful : AreInOrder contents
   pub once : IsDistinct nat_eq (numbers_read counted)
   pub versions : (i : ℕ) (version : Version) → (contents.versions i ≡ Some version) ↔ IsRead contents.current counted i version
   pub ends : (read : EntryNo × Entry) → Contains counted read → (read.1.end ≡ 0) ⊎ IsTrue (counts contents.current read.1.end)
+  pub positions : (read : EntryNo × Entry) → Contains counted read → read.1.position ≤ contents.current.position
   pub gapped_once : IsDistinct nat_eq (numbers_of gapped)
   pub gapped_are : (i : ℕ) → Contains (numbers_of gapped) i
       ↔ ((i < entries_of contents) × (contents.is_free i ≡ false) × (contents.versions i ≡ None))

@@ -1,5 +1,5 @@
 //! What a node holds in memory, made from the versions of its image.
-ghost use Rattle.std.specs.Prelude.{◌≡◌, [], nat_eq, OnOk, OnErr, IfOk, IfErr};
+ghost use Rattle.std.specs.Prelude.{◌≡◌, ◌≤◌, [], nat_eq, OnOk, OnErr, IfOk, IfErr};
 ghost use Rattle.std.specs.List.{IsDistinct};
 ghost use Rattle.model.specs.Group.{Contents};
 ghost use Rattle.mv_keyspace.specs.Row.{cell_of_row, numbers_of, table_of};
@@ -44,6 +44,11 @@ pub fn rebuild<K: Keyspace>(
     ensures rising { IfOk result (λ rebuilt. RisesWith counted.items (numbers_of rebuilt.ended.items)) }
     ensures err { OnErr result (K.table keyspace.new ≡ []) }
     ensures cause { IfErr result (λ refusal. refusal ≡ Refusal.Memory) }
+    ensures past { K.past keyspace.new ≡ K.past keyspace.old }
+    ensures pins { K.pins keyspace.new ≡ K.pins keyspace.old }
+    // the last change is none after the record's position
+    ensures last { OnOk result ((contents : Contents) → contents.current.layout ≡ layout → contents.lines ≡ lines → AreOf contents counted.items gapped.now
+        → K.last keyspace.old ≤ contents.current.position → K.last keyspace.new ≤ contents.current.position) }
 {
     let mut heap = ExtentHeap::new(
         alloc,

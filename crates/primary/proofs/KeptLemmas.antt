@@ -18,7 +18,8 @@ use Rattle.mv_keyspace.specs.Table.{records}
 use Rattle.wbl_engine.specs.declared.freeing.Freed.{Freed}
 use Rattle.redis_core.specs.declared.turn.Turn.{Turn}
 use Rattle.redis_core.specs.declared.turn.Turn.TheVariants as turn
-use Rattle.redis_core.specs.Sequencing.{HandsOut, LeadsOn, MovesSeat, Sequencing, state_of}
+use Rattle.redis_core.specs.Copying.{CopyOf}
+use Rattle.redis_core.specs.Sequencing.{HandsOut, LeadsOn, MovesCopy, MovesSeat, Sequencing, state_of}
 use Rattle.redis_core.specs.Turn.{Answers, Moves, OnServed, OnUnserved, call_of}
 use Rattle.wbl_engine.specs.CommittingAll.{AreGroups}
 use Rattle.group_commit.specs.Group.{after_work, groups_of, lists_of}
@@ -127,6 +128,11 @@ recollects-moved old new seat now moves =
 
 pub recollects-same : (old new : Sequencing) → new ≡ old → Recollects old new
 recollects-same old new same = subst (Recollects old) (sym same) (recollects-still old old (record { table = refl; position = refl; before = refl; waiting = refl; ended = refl; newest = refl }))
+
+pub recollects-copied : (old : Sequencing) (copy : Option CopyOf) (new : Sequencing) → MovesCopy old copy new → Recollects old new
+recollects-copied old copy new moves =
+    subst (Recollects old) (sym moves)
+    (recollects-still old (record old { copy = copy }) (record { table = refl; position = refl; before = refl; waiting = refl; ended = refl; newest = refl }))
 
 pub recollects-answered : (old new : Sequencing) (seat : ℕ) (item : Item) (reply : Reply) → Answers old seat item reply new → Recollects old new
 recollects-answered old new seat item reply answers low past later contents items aside notices leads agree served keeps =

@@ -1,5 +1,5 @@
 -- What is to be committed leads to the sequencer, where a group or a free list is closed, while calls are made, and once a group has committed.
-use Rattle.std.proofs.Common.{rules, ◌≡◌, ℕ, List, [], ◌∷◌, ◌++◌, map, nat_eq, refl, sym, ap, ap₂, subst, ◌∙◌, append-nil, append_assoc, inl, inr, true≢false}
+use Rattle.std.proofs.Common.{rules, ◌≡◌, ℕ, List, Option, [], ◌∷◌, ◌++◌, map, nat_eq, refl, sym, ap, ap₂, subst, ◌∙◌, append-nil, append_assoc, inl, inr, true≢false}
 use Rattle.std.proofs.lemmas.Bool.{or_cases}
 use Rattle.std.proofs.lemmas.Grind.{flat_map-append}
 use Rattle.std.proofs.lemmas.List.Folds.{list_any-append}
@@ -12,14 +12,15 @@ use Rattle.model.specs.declared.work.Work.TheVariants as work
 use Rattle.model.specs.Group.{AreEnded, Contents, IsConsistent, after_group, is_listed}
 use Rattle.wbl_engine.specs.declared.freeing.Freed.{Freed}
 use Rattle.wbl_engine.proofs.WithoutLemmas.{AllEnded}
-use Rattle.redis_core.specs.Sequencing.{Expects, HandsOut, IsAheadOf, LeadsOn, Sequencing}
+use Rattle.redis_core.specs.Copying.{CopyOf}
+use Rattle.redis_core.specs.Sequencing.{Expects, HandsOut, IsAheadOf, LeadsOn, MovesCopy, Sequencing}
 use Rattle.group_commit.specs.Group.{AreWork, after_groups, after_work, groups_of, lists_before, lists_of}
 use Rattle.group_commit.specs.Working.{IsLawful, entries_of_lists}
 use Rattle.group_commit.proofs.FreedLemmas.{AllEnded-listed, AreEnded-after_group, AreEnded-first, AreEnded-moved, AreEnded-rest, IsConsistent-after_groups}
 use Rattle.group_commit.proofs.WorkLemmas.{AreGroups-of-work, AreWork-behind, AreWork-push-group, AreWork-push-list, after_work-push-group, after_work-push-list, groups_of-append, groups_of-lists, lawful, lists_before-lists, lists_of-append, lists_of-lists}
 use Rattle.pipes.specs.Waiting.{Waiting}
 use Rattle.primary.specs.Closing.{ClosesGroup, ClosesList}
-use Rattle.primary.specs.Leading.{AreOfEpoch, Leads, entries_told, extents_told}
+use Rattle.primary.specs.Leading.{AreOfEpoch, KeepsLead, Leads, entries_told, extents_told}
 
 -- ---- a group or a list is closed
 
@@ -107,6 +108,12 @@ Leads-still contents items aside old new notices stands expects ended leads =
       expects last (entries_told notices) (extents_told notices) leads.stands leads.expects,
       subst (λ (xs : List EntryNo). AreEnded last (entries_of_lists (aside ++ lists_of items) ++ xs)) (sym ended) leads.listed,
     )
+
+-- whatever copy there is
+pub KeepsLead-copied : (old : Sequencing) (copy : Option CopyOf) (new : Sequencing) → MovesCopy old copy new → ((c : Contents) → IsAheadOf old c → IsAheadOf new c)
+    → ((c : Contents) (e : List EntryNo) (x : List Extent) → IsAheadOf old c → Expects old c e x → Expects new c e x) → KeepsLead old new
+KeepsLead-copied old copy new moves stands expects contents items aside leads =
+    Leads-still contents items aside old new [] stands expects (ap (λ (s : Sequencing). s.ended) moves) leads
 
 -- ---- what a turn may take
 

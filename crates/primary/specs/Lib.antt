@@ -5,3 +5,4 @@ pub mod Standing
 pub mod Settled
 pub mod Recalling
 pub mod Ahead
+pub mod Sending

@@ -4,6 +4,8 @@
 mod ahead;
 mod back;
 mod closing;
+mod copies;
+mod frame;
 mod front;
 mod opening;
 mod primary;
@@ -12,6 +14,7 @@ mod resuming;
 
 pub use ahead::{close_ahead, take_ahead};
 pub use back::Back;
+pub use frame::{CopyFrame, MAX_PART_BYTES};
 pub use front::Front;
 pub use opening::{Opened, open};
 pub use primary::{Primary, close, take_back};

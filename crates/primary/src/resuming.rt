@@ -1,5 +1,5 @@
 //! What a primary holds beside its engine, made of the versions of an image.
-ghost use Rattle.std.specs.Prelude.{◌≡◌, ◌<◌, length, IfOk, IfErr};
+ghost use Rattle.std.specs.Prelude.{◌≡◌, ◌<◌, ◌≤◌, [], length, IfOk, IfErr};
 ghost use Rattle.cmd_core.specs.Contents.{keys_of};
 ghost use Rattle.model.specs.declared.image.TheConstants.{COUNTER_LIMIT};
 ghost use Rattle.model.specs.Group.{Contents};
@@ -69,6 +69,9 @@ fn read_versions<K: Keyspace + Drop>(
     requires read { (contents : Contents) × (contents.current.layout ≡ layout) × (contents.lines ≡ lines) × AreOf contents versions.counted.items versions.gapped.items }
     ensures rebuilt { IfOk result (λ made. (contents : Contents) → contents.current.layout ≡ layout → contents.lines ≡ lines
         → AreOf contents versions.counted.items versions.gapped.items → IsRebuilt contents (K.table made.0) made.1.heap × AreEndedOf contents (numbers_of made.1.ended.items)) }
+    ensures unpinned { IfOk result (λ made. K.pins made.0 ≡ []) }
+    ensures last { IfOk result (λ made. (contents : Contents) → contents.current.layout ≡ layout → contents.lines ≡ lines
+        → AreOf contents versions.counted.items versions.gapped.items → K.last made.0 ≤ contents.current.position) }
     ensures ids { IfOk result (λ made. (contents : Contents) → AreOf contents versions.counted.items versions.gapped.items → AreIdsEnded contents made.2.items) }
     ensures cause { IfErr result (λ refusal. refusal ≡ Refusal.Memory) }
 {
@@ -86,7 +89,8 @@ fn read_versions<K: Keyspace + Drop>(
 }
 
 /// What a primary holds beside its engine, over this keyspace and this room; `ended` are the records that have versions which ended, `at` is the position and
-/// the epoch of the engine's record, and `floor` that record's floor. Only `Memory`.
+/// the epoch of the engine's record, and `floor` that record's floor. Nothing of the keyspace is pinned, and it changed last at that position or before.
+/// Only `Memory`.
 fn start<K: Keyspace + Drop>(
     alloc: Global,
     keyspace: K,
@@ -99,6 +103,8 @@ fn start<K: Keyspace + Drop>(
     requires rebuilt { (contents : Contents) × (contents.current.position ≡ at.0) × IsRebuilt contents (K.table keyspace) room.heap
         × AreEndedOf contents (numbers_of room.ended.items) × AreIdsEnded contents ended.items }
     requires counted { at.0 < COUNTER_LIMIT }
+    requires unpinned { K.pins keyspace ≡ [] }
+    requires last { K.last keyspace ≤ at.0 }
     ensures sequencer { IfOk result (λ resumed. (contents : Contents) → contents.current.position ≡ at.0 → contents.current.epoch ≡ at.1
         → IsRebuilt contents (K.table keyspace) room.heap → AreEndedOf contents (numbers_of room.ended.items) → IsOver contents resumed.sequencer) }
     ensures opening { IfOk result (λ resumed. (resumed.opening.position ≡ at.0) × ((contents : Contents) → IsRebuilt contents (K.table keyspace) room.heap

@@ -1,5 +1,5 @@
 -- An answer is a legal entry of the list, whether its request was run, queued, answered or refused.
-use Rattle.std.proofs.Common.{rules, ◌≡◌, ◌≢◌, ℕ, ◌+◌, ◌⊎◌, inl, inr, Bool, true, false, cond, if◌then◌else◌, nat_eq, not, is_some, map, List, [], ◌∷◌, ◌++◌, length, codes, Option, Some, None, refl, sym, ap, subst, subst₂, ◌∙◌, arith, eq-eqb, ne_eqb}
+use Rattle.std.proofs.Common.{rules, ◌≡◌, ℕ, ◌+◌, ◌⊎◌, inl, inr, Bool, true, false, cond, if◌then◌else◌, nat_eq, not, is_some, List, [], ◌∷◌, ◌++◌, codes, Option, Some, None, refl, sym, ap, subst, subst₂, ◌∙◌, arith, eq-eqb, ne_eqb}
 use Rattle.std.proofs.lemmas.Bool.{cases_eq}
 use Rattle.std.specs.Option.{option_map}
 use Rattle.kv_types.specs.declared.change.Change.{Change}
@@ -14,32 +14,23 @@ use Rattle.multi_watch.specs.Session.{Session, idle_session, modified_where}
 use Rattle.multi_watch.specs.Admission.{Admission, Answer, Run, RunAll, admit, session_after_request, session_after_refusal}
 use Rattle.multi_watch.specs.Modified.{modifies}
 use Rattle.multi_watch.specs.Sessions.{Sessions, Moves as MovesSession, slot, session_of, session_at}
-use Rattle.model.specs.declared.group.Part.{Part}
-use Rattle.model.specs.declared.group.PlacedChange.{PlacedChange}
 use Rattle.model.specs.Call.{admission_at, MayAnswer, all_made, changes_for, changes_of, full_reply, memory_reply, replies_in, is_memory, is_nonempty, session_after_item}
 use Rattle.model.specs.Command.{closes, outcome_of}
-use Rattle.model.specs.Group.{change_of, changes_of_part}
 use Rattle.model.proofs.CallsLemmas.{changes_for-error}
 use Rattle.model.proofs.SessionLemmas.{item-closed, replies_in-Array}
-use Rattle.mv_keyspace.specs.Table.{place_all, puts_of, records}
+use Rattle.mv_keyspace.specs.Table.{records}
 use Rattle.mv_keyspace.proofs.TableLemmas.{records-place_all}
 use Rattle.placing.specs.Performs.{Performs}
-use Rattle.placing.specs.Place.{HasRoomFor, TakesPlaces}
-use Rattle.redis_core.specs.declared.running.Running.{Running}
+use Rattle.placing.specs.Place.{HasRoomFor}
 use Rattle.redis_core.specs.Marking.{Marks}
 use Rattle.redis_core.specs.Sequencing.{Sequencing, MovesSeat, is_closed, state_of}
-use Rattle.redis_core.specs.Serving.{Runs, Acts, AnswersRequest, Finishes, RefusesMemory}
-use Rattle.redis_core.specs.Stored.{Stored, AreUnderWay}
-use Rattle.redis_core.specs.Turn.{AddsPart, Answers, AreFullOnly, MayTell, Moves, call_of}
+use Rattle.redis_core.specs.Serving.{Runs, Acts, AnswersRequest, RefusesMemory}
+use Rattle.redis_core.specs.Turn.{Answers, AreFullOnly, MayTell, Moves, call_of}
 use Rattle.redis_core.proofs.AdmissionLemmas.{answers-known, run-unmoved}
 use Rattle.redis_core.proofs.RefusalLemmas.{memory_not_full}
-use Rattle.redis_core.proofs.RunningLemmas.{marks-none, ran-full, ran-stand, ran-made}
+use Rattle.redis_core.proofs.RunningLemmas.{marks-none}
 
 -- ---- what moves
-
-pub moves_part : (changes : List Change) (old : Sequencing) (part : _) (new : Sequencing) → length changes ≢ 0 → AddsPart old part changes new → Moves changes old new
-moves_part [] old part new some adds = absurd (some refl)
-moves_part (change ∷ changes) old part new some adds = (part, adds)
 
 keyspace_moved : (changes : List Change) (old new : Sequencing) → Moves changes old new → records new.table ≡ play_all (records old.table) changes
 keyspace_moved [] old new moves = ap records moves.table
@@ -51,54 +42,6 @@ keyspace_moved (change ∷ changes) old new moves =
 position_moved : (changes : List Change) (old new : Sequencing) → Moves changes old new → new.position ≡ old.position + (if is_nonempty changes then 1 else 0)
 position_moved [] old new moves = omega (arith, moves.position)
 position_moved (change ∷ changes) old new moves = moves.1.position ∙ moves.1.performs.position_is
-
--- ---- a call is over
-
-abbrev pub stored : Sequencing → Stored
-stored s = record { table = s.table; room = s.room; sessions = s.sessions }
-
--- where a part has changes, they are some
-pub some_changes : (part : Part) → part.changes.items ≢ [] → changes_of_part part ≢ []
-some_changes part some = λ none. some (no_items part.changes.items none)
-  where
-    no_items : (items : List PlacedChange) → map change_of items ≡ [] → items ≡ []
-    no_items [] none = refl
-    no_items (item ∷ items) none = cc
-
-module _ (old mid new : Sequencing) (requests : List (List (List ℕ))) (replies : List Reply) (running : Running)
-    (under : AreUnderWay (stored old) (old.position + 1) requests replies [] running (stored mid))
-    (position : mid.position ≡ old.position) (waiting : mid.waiting ≡ old.waiting) (epoch : mid.epoch ≡ old.epoch) (before : mid.before ≡ old.before) (ended : mid.ended ≡ old.ended) (newest : mid.newest ≡ old.newest) (over : Finishes mid running.part new) where
-  moved_by : (items : List PlacedChange) → running.part.changes.items ≡ items → Moves (changes_of_part running.part) old new
-  moved_by [] e =
-      let over_none = over.none e in
-      let table : new.table ≡ old.table = over.table ∙ under.performs.table_is ∙ ap (place_all running.part.position old.table) e in
-      let room : new.room ≡ old.room = over.room ∙ subst (λ items. TakesPlaces old.room (puts_of items) mid.room) e under.performs.places in
-      subst (λ (cs : List Change). Moves cs old new) (sym (ap (map change_of) e)) (record { table = table; room = room; position = over_none.0 ∙ position; waiting = over_none.1 ∙ waiting })
-  moved_by (item ∷ items) e =
-      let over_some = over.some (λ none. not_none item items (sym e ∙ none)) in
-      moves_part (changes_of_part running.part) old running.part new (λ none. no_length item items (sym (ap (λ xs. length (map change_of xs)) e) ∙ none)) (record {
-        performs = subst₂ (λ table room. Performs old.table old.room (old.position + 1) (changes_of_part running.part) running.part table room) (sym over.table) (sym over.room) under.performs;
-        position = over_some.0;
-        waiting = over_some.1 ∙ ap (λ parts. parts ++ running.part ∷ []) waiting;
-      })
-    where
-      not_none : (item : PlacedChange) (items : List PlacedChange) → item ∷ items ≡ [] → ⊥
-      not_none item items h = cc
-
-      no_length : (item : PlacedChange) (items : List PlacedChange) → length (map change_of (item ∷ items)) ≡ 0 → ⊥
-      no_length item items h = omega (arith, h)
-
-  -- its requests were run, and what they changed waits
-  pub runs-finished : Runs old requests replies new
-  runs-finished =
-      let same = ran-made (stored old) (old.position + 1) requests replies running (stored mid) under in
-      search (
-        rules,
-        subst (AreFullOnly (records old.table) old.room requests replies) (sym over.room) (ran-full (stored old) (old.position + 1) requests replies running (stored mid) under),
-        ran-stand (stored old) (old.position + 1) requests replies running (stored mid) under,
-        subst (λ (cs : List Change). Moves cs old new) (sym same) (moved_by running.part.changes.items refl),
-        subst₂ (λ (cs : List Change) (sessions : Sessions). Marks (records old.table) cs old.sessions sessions) (sym same) (sym over.sessions) under.marks,
-      )
 
 -- ---- what was to be done was done
 
@@ -185,6 +128,7 @@ pub record Answered (old : Sequencing) (seat : ℕ) (item : Item) (reply : Reply
   pub before : mid.before ≡ old.before
   pub ended : mid.ended ≡ old.ended
   pub newest : mid.newest ≡ old.newest
+  pub copy : mid.copy ≡ old.copy
   pub slots : (other : ℕ) → slot mid.sessions other
       ≡ option_map (modified_where (modifies (records old.table) (changes_of (state_of old) (call_of seat item reply)))) (cond (nat_eq seat other) (Some left) (slot old.sessions other))
 
@@ -294,6 +238,7 @@ module _ (old : Sequencing) (seat : ℕ) (item : Item) (reply : Reply) (left : S
         before = over.before ∙ answered.before;
         ended = over.ended ∙ answered.ended;
         newest = over.newest ∙ answered.newest;
+        copy = over.copy ∙ answered.copy;
         sessions = λ other.
             ap session_of (moved other) ∙ cond_of session_of (nat_eq seat other) None (slot mid.sessions other) ∙ ap (cond (nat_eq seat other) idle_session) (session_mid other)
             ∙ closed_session marks (nat_eq seat other) left (session_at old.sessions other) ∙ ap (λ own. modified_where marks (cond (nat_eq seat other) own (session_at old.sessions other))) (sym (own_closed shut));
@@ -323,6 +268,7 @@ answered-request old seat words reply mid answers =
       before = answers.acts.before ∙ seated.before;
       ended = answers.acts.ended ∙ seated.ended;
       newest = answers.acts.newest ∙ seated.newest;
+      copy = answers.acts.copy ∙ seated.copy;
       slots = λ other.
           subst (λ (s : Keyspace). slot mid.sessions other ≡ option_map (modified_where (modifies s (changes_for s admission reply))) (slot between.sessions other)) keyspace (answers.acts.marks other)
           ∙ ap (option_map (modified_where (modifies (records old.table) (changes_for (records old.table) admission reply)))) (slot_moved old.sessions between.sessions seat other _ seated.sessions);
@@ -365,6 +311,7 @@ answered-fault old seat fault reply seated may = record {
   before = refl;
   ended = refl;
   newest = refl;
+  copy = refl;
   slots = λ other.
       marks-none (records old.table) old.sessions other ∙ ap (option_map (modified_where (modifies (records old.table) []))) (elim (cases_eq other seat) [
         | inl same ↦ rw (eq-eqb seat other (sym same)) (ap (slot old.sessions) same ∙ there (slot old.sessions seat) seated)

@@ -1,5 +1,5 @@
 -- What a sequencer expects to come back to its heap stays so, whatever calls do.
-use Rattle.std.proofs.Common.{rules, ◌≡◌, ℕ, Bool, IsTrue, List, [], ◌∷◌, ◌++◌, nat_eq, refl, sym, subst₂}
+use Rattle.std.proofs.Common.{rules, ◌≡◌, ℕ, Bool, IsTrue, List, [], ◌∷◌, ◌++◌, Option, nat_eq, refl, sym, subst, subst₂}
 use Rattle.kv_types.specs.declared.change.Change.{Change}
 use Rattle.kv_types.specs.declared.place.EntryNo.{EntryNo}
 use Rattle.kv_types.specs.declared.place.Extent.{Extent}
@@ -15,7 +15,8 @@ use Rattle.placing.proofs.BackLemmas.{comes-back-part}
 use Rattle.placing.proofs.FreedPlaces.{comes-back-same}
 use Rattle.placing.proofs.LeftLemmas.{after_parts, left-after_parts}
 use Rattle.placing.proofs.MemberLemmas.{distinct_none}
-use Rattle.redis_core.specs.Sequencing.{Sequencing, Expects, IsAheadOf, contents_ahead, starts}
+use Rattle.redis_core.specs.Copying.{CopyOf}
+use Rattle.redis_core.specs.Sequencing.{Sequencing, Expects, IsAheadOf, MovesCopy, contents_ahead, starts}
 use Rattle.redis_core.specs.Turn.{Moves}
 
 -- ---- contents that differ in nothing that counts
@@ -61,3 +62,8 @@ Expects-moves (change ∷ changes) old new moves contents entries extents stands
     let adds = moves.1 in
     subst₂ (λ waiting room. ComesBack (contents_ahead contents waiting) room entries extents) (sym adds.waiting) refl
     (expects_part old contents moves.0 new.room entries extents stands adds.performs.places expects)
+
+-- whatever copy there is, too
+pub Expects-copied : (old : Sequencing) (copy : Option CopyOf) (new : Sequencing) → MovesCopy old copy new → (contents : Contents) (entries : List EntryNo) (extents : List Extent)
+    → Expects old contents entries extents → Expects new contents entries extents
+Expects-copied old copy new moves contents entries extents expects = subst (λ (s : Sequencing). Expects s contents entries extents) (sym moves) expects

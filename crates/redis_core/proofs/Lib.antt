@@ -3,6 +3,7 @@ pub mod StandingLemmas
 pub mod RefusalLemmas
 pub mod RunningLemmas
 pub mod StoreLemmas
+pub mod FinishedLemmas
 pub mod AnswersLemmas
 mod SeatsLemmas
 mod MarkingLemmas
@@ -11,3 +12,5 @@ pub mod ListedLemmas
 pub mod ExpectingLemmas
 pub mod LeadingLemmas
 pub mod ReturningLemmas
+pub mod CopyLemmas
+pub mod CopiedLemmas

@@ -23,9 +23,10 @@ use Rattle.placing.specs.Left.{IsBeside}
 use Rattle.placing.specs.Performs.{Performs, AddsTo, IsSamePart}
 use Rattle.placing.proofs.AddingLemmas.{performs-none, changes-added, performs-more}
 use Rattle.redis_core.specs.declared.running.Running.{Running}
+use Rattle.redis_core.specs.Copying.{IsBefore}
 use Rattle.redis_core.specs.Marking.{Marks}
 use Rattle.redis_core.specs.Turn.{AreFullOnly, TakesRoom}
-use Rattle.redis_core.specs.Stored.{Stored, AreUnderWay, IsSame, Makes, RunsRequest}
+use Rattle.redis_core.specs.Stored.{Stored, AreUnderWay, IsSame, Makes, RunsRequest, last_after}
 
 -- ---- marks
 
@@ -89,6 +90,8 @@ makes-none s old new same = record {
   adds = adds-none old new s.table s.room same;
   marks = marks-none (records s.table) s.sessions;
   counted = λ some. absurd (some refl);
+  copy = λ before. refl;
+  last = refl;
 }
 
 pub makes-empty : (s : Stored) (changes : List Change) (part : Part) → length changes ≡ 0 → Makes s changes part part s
@@ -118,6 +121,8 @@ underway-begin start position requests running beside at changes ended all =
           (performs-none running.part position start.table start.room at changes ended);
       marks = subst (λ (cs : List Change). Marks s cs start.sessions start.sessions) (sym none) (marks-none s start.sessions);
       counted = λ some. absurd (some none);
+      copy = λ before. refl;
+      last = sym (ap (last_after start.last position) none);
     }
 
 -- ---- one more request
@@ -184,6 +189,21 @@ module _ (start : Stored) (position : ℕ) (requests : List (List (List ℕ))) (
       not_none : (change : Change) (changes : List Change) → change ∷ changes ≡ [] → ⊥
       not_none change changes h = cc
 
+  copy_more : IsBefore start.copy position → new.copy ≡ start.copy
+  copy_more earlier =
+      let same = under.copy earlier in
+      runs.makes.copy (subst₂ IsBefore (sym same) (sym under.performs.position_is) earlier) ∙ same
+
+  last_twice : (last at : ℕ) (first more : List Change) → last_after (last_after last at first) at more ≡ last_after last at (first ++ more)
+  last_twice last at [] more = refl
+  last_twice last at (change ∷ first) [] = refl
+  last_twice last at (change ∷ first) (other ∷ more) = omega arith
+
+  last_more : new.last ≡ last_after start.last position (changes_of_part after.part)
+  last_more =
+      runs.makes.last ∙ ap₂ (λ (last at : ℕ). last_after last at these) under.last under.performs.position_is
+      ∙ last_twice start.last position before these ∙ ap (last_after start.last position) (sym part_now)
+
   pub underway-more : AreUnderWay start position requests (replies ++ reply ∷ []) rest after new
   underway-more = record {
     stand = stands_more;
@@ -195,6 +215,8 @@ module _ (start : Stored) (position : ℕ) (requests : List (List (List ℕ))) (
     marks = subst (λ (cs : List Change). Marks s0 cs start.sessions new.sessions) (sym part_now)
         (marks-append s0 before these start.sessions now.sessions new.sessions under.marks (subst (λ (s : Keyspace). Marks s these now.sessions new.sessions) keyspace_now runs.makes.marks));
     counted = counted_by these refl;
+    copy = copy_more;
+    last = last_more;
   }
 
 -- ---- after the last

@@ -1,5 +1,5 @@
 -- A sequencer stays ahead of the contents of an engine: where a part begins to wait, and where all leave as a group.
-use Rattle.std.proofs.Common.{rules, ◌≡◌, ℕ, ◌+◌, ◌<◌, ◌≤◌, List, [], ◌∷◌, ◌++◌, length, None, inl, sym, subst, ◌∙◌, arith}
+use Rattle.std.proofs.Common.{rules, ◌≡◌, ℕ, ◌+◌, ◌<◌, ◌≤◌, List, [], ◌∷◌, ◌++◌, length, Option, None, inl, sym, subst, ◌∙◌, arith}
 use Rattle.std.specs.List.{AllByRecursion}
 use Rattle.kv_types.specs.declared.change.Change.{Change}
 use Rattle.kv_types.specs.declared.place.EntryNo.{EntryNo}
@@ -19,7 +19,8 @@ use Rattle.placing.proofs.TakenLemmas.{All-map, All-append, IsFree, taken_within
 use Rattle.placing.proofs.LeftLemmas.{placed_of_free, unused_of_free, left_within, after_parts, left-after_parts}
 use Rattle.placing.proofs.PartsLemmas.{parts_versions-append, last_position-append, AreParts-append, puts_of_parts-append}
 use Rattle.multi_watch.specs.Sessions.{Sessions}
-use Rattle.redis_core.specs.Sequencing.{Sequencing, puts_of_parts, ended_by_parts, newest_end, NamesOnce, IsAheadOf, HandsOut}
+use Rattle.redis_core.specs.Copying.{CopyOf}
+use Rattle.redis_core.specs.Sequencing.{MovesCopy, Sequencing, puts_of_parts, ended_by_parts, newest_end, NamesOnce, IsAheadOf, HandsOut}
 use Rattle.redis_core.specs.Turn.{Moves}
 
 -- the entries of new puts hold nothing, also after the parts that wait
@@ -40,9 +41,9 @@ module _ (s : Sequencing) (contents : Contents) (stands : IsAheadOf s contents) 
   new_distinct : AreDistinct (puts_of_part part)
   new_distinct = AreDistinct-from_apart (puts_of_part part) (places_apart s.room (puts_of_part part) room takes)
 
-  pub IsAheadOf-part : (listed : List EntryNo) (newest : ℕ) (sessions : Sessions) → part.position ≡ s.position + 1 → AreEnded part.position s.table part.changes.items part.ended.items
-      → IsAheadOf (record { table = place_all part.position s.table part.changes.items; room = room; position = part.position; epoch = s.epoch; before = s.before; waiting = s.waiting ++ part ∷ []; ended = listed; newest = newest; sessions = sessions }) contents
-  IsAheadOf-part listed newest sessions next ended =
+  pub IsAheadOf-part : (listed : List EntryNo) (newest : ℕ) (sessions : Sessions) (copy : Option CopyOf) → part.position ≡ s.position + 1 → AreEnded part.position s.table part.changes.items part.ended.items
+      → IsAheadOf (record { table = place_all part.position s.table part.changes.items; room = room; position = part.position; epoch = s.epoch; before = s.before; waiting = s.waiting ++ part ∷ []; ended = listed; newest = newest; sessions = sessions; copy = copy }) contents
+  IsAheadOf-part listed newest sessions copy next ended =
       let old = puts_of_parts s.waiting in
       let new = puts_of_part part in
       let puts = puts_of_parts-append s.waiting part in
@@ -68,10 +69,14 @@ module _ (s : Sequencing) (contents : Contents) (stands : IsAheadOf s contents) 
             (IsTable-changes part.position (parts_versions contents.versions s.waiting) s.table part.changes.items new_empty new_distinct stands.table);
       }
 
--- what sessions there are does not matter, nor what is listed
-pub IsAheadOf-others : (s : Sequencing) (listed : List EntryNo) (newest : ℕ) (sessions : Sessions) (contents : Contents) → IsAheadOf s contents
-    → IsAheadOf (record s { ended = listed; newest = newest; sessions = sessions }) contents
-IsAheadOf-others s listed newest sessions contents stands = search rules
+-- what sessions there are does not matter, nor what is listed or copied
+pub IsAheadOf-others : (s : Sequencing) (listed : List EntryNo) (newest : ℕ) (sessions : Sessions) (copy : Option CopyOf) (contents : Contents) → IsAheadOf s contents
+    → IsAheadOf (record s { ended = listed; newest = newest; sessions = sessions; copy = copy }) contents
+IsAheadOf-others s listed newest sessions copy contents stands = search rules
+
+-- nor what copy there is
+pub IsAheadOf-copied : (old : Sequencing) (copy : Option CopyOf) (new : Sequencing) → MovesCopy old copy new → (contents : Contents) → IsAheadOf old contents → IsAheadOf new contents
+IsAheadOf-copied old copy new moves contents stands = subst (λ s. IsAheadOf s contents) (sym moves) (IsAheadOf-others old old.ended old.newest old.sessions copy contents stands)
 
 -- ---- all parts leave
 
@@ -101,12 +106,12 @@ IsAheadOf-group old group new hands contents stands =
 pub IsAheadOf-moves : (changes : List Change) (old new : Sequencing) → Moves changes old new → new.epoch ≡ old.epoch → new.before ≡ old.before → (contents : Contents) → IsAheadOf old contents → IsAheadOf new contents
 IsAheadOf-moves [] old new moves epoch before contents stands =
     subst (λ s. IsAheadOf s contents)
-    (λ i. record { table = sym moves.table i; room = sym moves.room i; position = sym moves.position i; epoch = sym epoch i; before = sym before i; waiting = sym moves.waiting i; ended = new.ended; newest = new.newest; sessions = new.sessions })
-    (IsAheadOf-others old new.ended new.newest new.sessions contents stands)
+    (λ i. record { table = sym moves.table i; room = sym moves.room i; position = sym moves.position i; epoch = sym epoch i; before = sym before i; waiting = sym moves.waiting i; ended = new.ended; newest = new.newest; sessions = new.sessions; copy = new.copy })
+    (IsAheadOf-others old new.ended new.newest new.sessions new.copy contents stands)
 IsAheadOf-moves (change ∷ changes) old new moves epoch before contents stands =
     let part = moves.0 in
     let adds = moves.1 in
     let performs = adds.performs in
     subst (λ s. IsAheadOf s contents)
-    (λ i. record { table = sym performs.table_is i; room = new.room; position = sym adds.position i; epoch = sym epoch i; before = sym before i; waiting = sym adds.waiting i; ended = new.ended; newest = new.newest; sessions = new.sessions })
-    (IsAheadOf-part old contents stands part new.room performs.places new.ended new.newest new.sessions performs.position_is performs.ended)
+    (λ i. record { table = sym performs.table_is i; room = new.room; position = sym adds.position i; epoch = sym epoch i; before = sym before i; waiting = sym adds.waiting i; ended = new.ended; newest = new.newest; sessions = new.sessions; copy = new.copy })
+    (IsAheadOf-part old contents stands part new.room performs.places new.ended new.newest new.sessions new.copy performs.position_is performs.ended)

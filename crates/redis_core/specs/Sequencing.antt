@@ -18,6 +18,7 @@ use Rattle.mv_keyspace.specs.Table.{Table, IsTable, records}
 use Rattle.mv_keyspace.specs.Row.{numbers_of}
 use Rattle.placing.specs.Back.{ComesBack, GivesAll}
 use Rattle.placing.specs.Left.{IsTaken, IsLeftOf}
+use Rattle.redis_core.specs.Copying.{CopyOf}
 use Rattle.redis_core.specs.Seats.{is_closed_at}
 
 pub record Sequencing : Type 0 where
@@ -39,6 +40,8 @@ pub record Sequencing : Type 0 where
   pub newest : ℕ
   -- for each seat its session, none where the seat is closed
   pub sessions : Sessions
+  -- the copy of an earlier position that is being given, if any
+  pub copy : Option CopyOf
 
 -- the state that calls are made at, each by a seat
 abbrev pub state_of : Sequencing → State
@@ -59,6 +62,11 @@ pub record MovesSeat (old : Sequencing) (seat : ℕ) (now : Option Session) (new
   pub ended : new.ended ≡ old.ended
   pub newest : new.newest ≡ old.newest
   pub sessions : Moves old.sessions seat now new.sessions
+  pub copy : new.copy ≡ old.copy
+
+-- The copy is this one afterwards, or none, and nothing else moved.
+abbrev pub MovesCopy : Sequencing → Option CopyOf → Sequencing → Type 0
+MovesCopy old now new = new ≡ record old { copy = now }
 
 abbrev pub puts_of_parts : List Part → List Put
 puts_of_parts = flat_map puts_of_part
@@ -125,6 +133,7 @@ starts table room ended position epoch sessions =
       ended = ended;
       newest = position;
       sessions = sessions;
+      copy = None;
     }
 
 -- All that has ended and is in no free list leaves as one.

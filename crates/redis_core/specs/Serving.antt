@@ -29,6 +29,7 @@ pub record Runs (old : Sequencing) (requests : List (List (List ℕ))) (replies 
   pub before : new.before ≡ old.before
   pub ended : new.ended ≡ old.ended
   pub newest : new.newest ≡ old.newest
+  pub copy : new.copy ≡ old.copy
 
 -- What was to be done was done, and this is its reply.
 pub record Acts (old : Sequencing) (admission : Admission) (reply : Reply) (new : Sequencing) : Type 0 where
@@ -42,6 +43,7 @@ pub record Acts (old : Sequencing) (admission : Admission) (reply : Reply) (new 
   pub before : new.before ≡ old.before
   pub ended : new.ended ≡ old.ended
   pub newest : new.newest ≡ old.newest
+  pub copy : new.copy ≡ old.copy
 
 -- That memory was refused is answered only where the session answers it, or where one request was run.
 abbrev pub RefusesMemory : Admission → Reply → Type 0
@@ -53,14 +55,7 @@ pub record AnswersRequest (old : Sequencing) (seat : ℕ) (words : List (List �
   pub session : MovesSeat old seat (Some (if is_memory reply then session_after_refusal (session_at old.sessions seat) words else session_after_request (session_at old.sessions seat) words)) between
   pub acts : Acts between (admit (session_at old.sessions seat) words) reply new
 
--- The changes of a call wait as one part, if there are any, and nothing else moved.
-pub record Finishes (old : Sequencing) (part : Part) (new : Sequencing) : Type 0 where
-  pub table : new.table ≡ old.table
-  pub room : new.room ≡ old.room
-  pub sessions : new.sessions ≡ old.sessions
-  pub epoch : new.epoch ≡ old.epoch
-  pub before : new.before ≡ old.before
-  pub ended : new.ended ≡ old.ended
-  pub newest : new.newest ≡ old.newest
-  pub none : part.changes.items ≡ [] → (new.position ≡ old.position) × (new.waiting ≡ old.waiting)
-  pub some : part.changes.items ≢ [] → (new.position ≡ part.position) × (new.waiting ≡ old.waiting ++ part ∷ [])
+-- The changes of a call wait as one part, if there are any.
+pub record Finishes (position : ℕ) (waiting : List Part) (part : Part) (position' : ℕ) (waiting' : List Part) : Type 0 where
+  pub none : part.changes.items ≡ [] → (position' ≡ position) × (waiting' ≡ waiting)
+  pub some : part.changes.items ≢ [] → (position' ≡ part.position) × (waiting' ≡ waiting ++ part ∷ [])

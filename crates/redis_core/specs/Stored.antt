@@ -1,5 +1,5 @@
 -- What calls are run on, and what running the requests of a call does to it.
-use Rattle.std.specs.Prelude.{◌≡◌, ◌≢◌, ℕ, ◌+◌, ◌<◌, ◌≤◌, List, [], ◌++◌, ◌||◌, Option, None, IsTrue}
+use Rattle.std.specs.Prelude.{◌≡◌, ◌≢◌, ℕ, ◌+◌, ◌<◌, ◌≤◌, List, [], ◌∷◌, ◌++◌, ◌||◌, Option, None, IsTrue, max}
 use Rattle.kv_types.specs.declared.change.Change.{Change}
 use Rattle.kv_types.specs.declared.place.EntryNo.{EntryNo}
 use Rattle.kv_types.specs.declared.place.Extent.{Extent}
@@ -19,6 +19,7 @@ use Rattle.placing.specs.Back.{GivesAll}
 use Rattle.placing.specs.Performs.{Performs, AddsTo, IsSamePart}
 use Rattle.placing.specs.Left.{IsBeside}
 use Rattle.placing.specs.Place.{HasRoomFor}
+use Rattle.redis_core.specs.Copying.{CopyOf, IsBefore}
 use Rattle.redis_core.specs.Marking.{Marks}
 use Rattle.redis_core.specs.Turn.{AreFullOnly}
 use Rattle.redis_core.specs.declared.running.Running.{Running}
@@ -30,12 +31,23 @@ pub record Stored : Type 0 where
   pub room : Room
   -- for each seat its session, none where the seat is closed
   pub sessions : Sessions
+  -- the copy that is being given, if any
+  pub copy : Option CopyOf
+  -- the position of the last change
+  pub last : ℕ
+
+-- the position of the last change, once these were made at this position
+abbrev pub last_after : ℕ → ℕ → List Change → ℕ
+last_after last position [] = last
+last_after last position (change ∷ changes) = max last position
 
 -- The seat has this session afterwards, or none, and nothing else moved.
 pub record MovesOne (old : Stored) (seat : ℕ) (now : Option Session) (new : Stored) : Type 0 where
   pub table : new.table ≡ old.table
   pub room : new.room ≡ old.room
   pub sessions : Moves old.sessions seat now new.sessions
+  pub copy : new.copy ≡ old.copy
+  pub last : new.last ≡ old.last
 
 -- Changes were made, marked, and added to a part.
 pub record Makes (old : Stored) (changes : List Change) (before after : Part) (new : Stored) : Type 0 where
@@ -43,6 +55,9 @@ pub record Makes (old : Stored) (changes : List Change) (before after : Part) (n
   pub marks : Marks (records old.table) changes old.sessions new.sessions
   -- no change is made at a position above what a counter holds
   pub counted : changes ≢ [] → before.position < COUNTER_LIMIT
+  -- a copy of an earlier position stays what it is
+  pub copy : IsBefore old.copy before.position → new.copy ≡ old.copy
+  pub last : new.last ≡ last_after old.last before.position changes
 
 -- the two say the same
 pub record IsSame (old new : Running) : Type 0 where
@@ -74,6 +89,8 @@ pub record AreUnderWay (start : Stored) (position : ℕ) (requests : List (List 
   pub performs : Performs start.table start.room position (changes_of_part running.part) running.part now.table now.room
   pub marks : Marks (records start.table) (changes_of_part running.part) start.sessions now.sessions
   pub counted : changes_of_part running.part ≢ [] → position < COUNTER_LIMIT
+  pub copy : IsBefore start.copy position → now.copy ≡ start.copy
+  pub last : now.last ≡ last_after start.last position (changes_of_part running.part)
 
 -- the table is that of some versions, and neither a free entry of the heap nor one of these has a version
 pub record IsBesideWith (table : Table) (room : Room) (entries : List EntryNo) : Type 0 where
@@ -86,3 +103,5 @@ pub record GivesBack (old : Stored) (entries : List EntryNo) (extents : List Ext
   pub table : new.table ≡ old.table
   pub room : GivesAll old.room entries extents new.room
   pub sessions : new.sessions ≡ old.sessions
+  pub copy : new.copy ≡ old.copy
+  pub last : new.last ≡ old.last

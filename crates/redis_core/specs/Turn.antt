@@ -83,6 +83,7 @@ pub record Answers (old : Sequencing) (seat : ℕ) (item : Item) (reply : Reply)
   pub before : new.before ≡ old.before
   pub ended : new.ended ≡ old.ended
   pub newest : new.newest ≡ old.newest
+  pub copy : new.copy ≡ old.copy
   pub sessions : (other : ℕ) → session_at new.sessions other ≡ (after_call (state_of old) (call_of seat item reply)).sessions other
   -- the seat is closed from now on if the item closes its connection
   pub closed : (other : ℕ) → is_closed new other ≡ (if nat_eq seat other then closes item else is_closed old other)

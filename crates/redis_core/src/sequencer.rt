@@ -1,5 +1,5 @@
 //! The sequencer: one list of calls for all seats, and the groups of what they changed.
-ghost use Rattle.std.specs.Prelude.{◌≡◌, ◌≢◌, ◌+◌, ◌<◌, ◌≤◌, ◌↔◌, ◌⊎◌, ◌++◌, ◌∷◌, [], List, true, false, length, vec_capacity, replicate, Some, None, IsTrue, IfOk, IfErr, IsErrOf, OnOk, OnErr};
+ghost use Rattle.std.specs.Prelude.{◌≡◌, ◌≢◌, ◌+◌, ◌<◌, ◌≤◌, ◌↔◌, ◌⊎◌, ◌++◌, ◌∷◌, [], List, true, false, length, vec_capacity, vec_len, replicate, Some, None, IsTrue, IfOk, IfErr, IsErrOf, OnOk, OnErr};
 ghost use Rattle.extent_heap.specs.Room.{has_room};
 ghost use Rattle.kv_types.specs.declared.item.Item.{Item};
 ghost use Rattle.kv_types.specs.declared.reply.Held.{Held};
@@ -68,14 +68,15 @@ impl<K: Keyspace> Model for Sequencer<K> {
       ended = s.listed.entries.items;
       newest = s.listed.position;
       sessions = s.store.sessions;
+      copy = s.store.copy;
     } };
 
-    ghost invariant = { λ s. IsReady s.position s.waiting.items (vec_capacity s.waiting) };
+    ghost invariant = { λ s. IsReady s.position s.waiting.items (vec_capacity s.waiting) s.store.copy s.store.last };
 }
 
 impl<K: Keyspace + Drop> Sequencer<K> {
     /// A sequencer over a keyspace at this position of the list, with a heap of what is free beside it and the entries of versions that have ended,
-    /// whose groups are of this epoch. All seats are closed and nothing waits. Watched keys are hashed with `hash_builder`, on which nothing that is
+    /// whose groups are of this epoch. All seats are closed, nothing waits, and no copy was begun. Watched keys are hashed with `hash_builder`, on which nothing that is
     /// promised depends.
     ///
     /// # Errors
@@ -89,7 +90,9 @@ impl<K: Keyspace + Drop> Sequencer<K> {
         epoch: u64,
         hash_builder: RandomState,
     ) -> Result<Sequencer<K>, Refusal>
-        requires { IsBeside (K.table keyspace) room.heap }
+        requires beside { IsBeside (K.table keyspace) room.heap }
+        requires unpinned { K.pins keyspace ≡ [] }
+        requires last { K.last keyspace ≤ position }
         ensures ok { IfOk result (λ s. s ≡ starts (K.table keyspace) room.heap room.ended.items position epoch (replicate MAX_SEATS None)) }
         ensures stands { IfOk result (λ s. (contents : Contents) → Underlies contents (K.table keyspace) room.heap position epoch → IsAheadOf s contents) }
         ensures expects { IfOk result (λ s. (contents : Contents) → HasOut contents room.heap 0 → Expects s contents [] []) }
@@ -290,7 +293,7 @@ impl<K: Keyspace> Sequencer<K> {
     {
         let mut running = self.store.begin(alloc, self.position + 1);
         let reply = self.store.run(alloc, request, &mut running);
-        self.finish(running.part);
+        finish(&mut self.position, &mut self.waiting, running.part);
         reply
     }
 
@@ -304,23 +307,22 @@ impl<K: Keyspace> Sequencer<K> {
     {
         let mut running = self.store.begin(alloc, self.position + 1);
         let replies = self.store.run_all(alloc, requests, replies, &mut running);
-        self.finish(running.part);
+        finish(&mut self.position, &mut self.waiting, running.part);
         Reply::Array(Listed::from_vec(replies))
     }
+}
 
-    /// The changes of a call that is over wait for a group as one part, if there are any.
-    fn finish(&mut self, part: Part)
-        requires few { length (self.old).waiting < MAX_PARTS }
-        requires next { part.position ≡ (self.old).position + 1 }
-        requires counted { part.changes.items ≢ [] → part.position < COUNTER_LIMIT }
-        ensures { Finishes self.old part self.new }
-    {
-        if part.changes.is_empty() {
-            return;
-        }
-        self.position = part.position;
-        self.waiting.push_reserved(part);
+/// The changes of a call that is over wait for a group as one part, if there are any; the position of the list is then theirs.
+fn finish(position: &mut u64, waiting: &mut Vec<Part>, part: Part)
+    requires room { vec_len waiting.old < vec_capacity waiting.old }
+    ensures finishes { Finishes position.old waiting.old.items part position.new waiting.new.items }
+    ensures capacity { vec_capacity waiting.new ≡ vec_capacity waiting.old }
+{
+    if part.changes.is_empty() {
+        return;
     }
+    *position = part.position;
+    waiting.push_reserved(part);
 }
 
 /// The reply to a protocol fault: its text or, where that shows a byte and memory for it was refused, the memory reply.

@@ -11,6 +11,7 @@ ghost use Rattle.redis_core.specs.Seats.{is_closed_at};
 ghost use Rattle.placing.specs.Place.{HasRoomFor};
 ghost use Rattle.redis_core.specs.Stored.{AreUnderWay, GivesBack, IsBesideWith, IsSame, IsTooFull, Makes, MovesOne, RunsRequest};
 
+use crate::copying::Copying;
 use crate::error::{error, refusal_reply};
 use crate::marking::{cleared_keys, mark};
 use crate::running::{Running, left_after};
@@ -28,32 +29,42 @@ use std::marker::Model;
 /// What the calls are run on: the keyspace and the heap after all calls so far, and the session of each seat. A clause sees a `Stored`.
 #[derive(Drop)]
 pub(crate) struct Store<K: Keyspace> {
-    keyspace: K,
+    pub(crate) keyspace: K,
     heap: ExtentHeap,
     seats: Seats,
+    pub(crate) copying: Option<Copying>,
 }
 
 impl<K: Keyspace> Model for Store<K> {
-    ghost use Rattle.placing.specs.Left.{IsBeside};
+    ghost use Rattle.redis_core.specs.Copying.{copy_in};
+    ghost use Rattle.redis_core.specs.Keeping.{IsStore};
     ghost use Rattle.redis_core.specs.Stored.{Stored};
 
     ghost Value = { Stored };
 
-    ghost view = { λ s. record { table = K.table s.keyspace; room = s.heap; sessions = s.seats } };
+    ghost view = { λ s. record {
+      table = K.table s.keyspace;
+      room = s.heap;
+      sessions = s.seats;
+      copy = copy_in (K.table s.keyspace) (K.past s.keyspace) s.copying;
+      last = K.last s.keyspace;
+    } };
 
-    ghost invariant = { λ s. IsBeside (K.table s.keyspace) s.heap };
+    ghost invariant = { λ s. IsStore (K.table s.keyspace) s.heap (K.pins s.keyspace) s.copying };
 }
 
 impl<K: Keyspace> Store<K> {
-    /// A keyspace with a heap of what is free beside it, and seats.
+    /// A keyspace of which nothing is pinned, with a heap of what is free beside it, and seats.
     pub(crate) fn new(keyspace: K, heap: ExtentHeap, seats: Seats) -> Store<K>
-        requires { IsBeside (K.table keyspace) heap }
-        ensures { result ≡ record { table = K.table keyspace; room = heap; sessions = seats } }
+        requires beside { IsBeside (K.table keyspace) heap }
+        requires unpinned { K.pins keyspace ≡ [] }
+        ensures { result ≡ record { table = K.table keyspace; room = heap; sessions = seats; copy = None; last = K.last keyspace } }
     {
         Store {
             keyspace,
             heap,
             seats,
+            copying: None,
         }
     }
 

@@ -6,6 +6,7 @@ mod bound;
 mod client;
 mod command;
 mod conversation;
+mod follower;
 mod grammar;
 mod link_listener;
 mod listening;

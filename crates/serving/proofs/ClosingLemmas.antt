@@ -6,7 +6,7 @@ use Rattle.pipes.specs.Waiting.{Waiting}
 use Rattle.extent_heap.specs.Room.{has_room}
 use Rattle.redis_core.specs.Sequencing.{Sequencing}
 use Rattle.primary.specs.Ahead.{GoesAhead, MayCloseGroup}
-use Rattle.serving.specs.Closing.{AheadIsDue, ClosesBoth, ClosesGroup, ClosesList, LacksBoth, LacksMemory, is_tight}
+use Rattle.serving.specs.Closing.{AheadIsDue, ClosesBoth, ClosesGroup, ClosesList, LacksBoth, LacksGroup, LacksMemory, is_tight}
 use Rattle.serving.specs.Gathering.{is_ahead_due, is_group_due, is_list_due}
 use Rattle.serving.specs.declared.ahead.Ahead.{Ahead}
 use Rattle.serving.specs.declared.closing.TheConstants.{LINES_OF_AN_ENTRY}
@@ -46,7 +46,7 @@ both-closed gathering noted remote is_short is_closed is_listed tight did old be
 -- ---- where memory was refused
 
 pub lacks-first : (result : Result Bool Refusal) (gathering noted : Gathering) (remote : ℕ) (is_short : Bool) (old new : Sequencing) (before after : Waiting Work)
-    → LacksMemory (is_group_due gathering old.position remote is_short) old before new after → OnErr result (LacksBoth gathering remote is_short old before new after noted)
+    → LacksGroup gathering remote is_short old before new after noted → OnErr result (LacksBoth gathering remote is_short old before new after noted)
 lacks-first (Ok did) gathering noted remote is_short old new before after lacks = tt
 lacks-first (Err refusal) gathering noted remote is_short old new before after lacks = inl lacks
 

@@ -18,4 +18,6 @@ mod VisitLemmas
 mod StepActs
 mod FetchLemmas
 mod VisitActs
+mod PinLemmas
+mod CopyLemmas
 mod RoundActs

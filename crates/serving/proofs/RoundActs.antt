@@ -9,9 +9,11 @@ use Rattle.redis_core.specs.Sequencing.{Sequencing}
 use Rattle.node_steps.specs.Acts.{handed_by}
 use Rattle.node_steps.proofs.HistoryLemmas.{acts-append}
 use Rattle.serving.specs.Acts.{DoesActs, DoesOrVain, IsOfRound, RoundsAreActs, ServesActs, SetsAsideInVain, node_at, offered_or_in_hand}
+use Rattle.serving.specs.Gathering.{with_copy}
 use Rattle.serving.specs.declared.commit_job.CommitJob.{CommitJob}
 use Rattle.serving.proofs.StepActs.{fetches-acts, tends-acts}
-use Rattle.serving.proofs.VisitActs.{serves-acts}
+use Rattle.serving.proofs.CopyLemmas.{copied-acts, makes-alone}
+use Rattle.serving.proofs.VisitActs.{serves-acts, serves-then}
 
 module _ {E : Type 0} (device : E → State) (contents : E → Contents) (is_faulted : E → Bool) where
   abbrev Does : List (Option ℕ) → Sequencing → CommitJob E → List (Option ℕ) → Sequencing → CommitJob E → Type 0
@@ -52,19 +54,20 @@ module _ {E : Type 0} (device : E → State) (contents : E → Contents) (is_fau
       (does-then seats seats' seats' tended served new job2 job2 job3 (serves-does seats seats' tended served job2 serves) third)))
 
   pub rounds-are : RoundsAreActs device contents is_faulted
-  rounds-are seats c known connections gathering home lender ahead old read connections' noted home' lender' ahead' new is_busy job round closed closed' is seated unseated free =
+  rounds-are seats c known connections gathering home lender ahead copying old read connections' noted home' lender' ahead' copying' new is_busy job round closed closed' is seated unseated free =
       let first = fetches-acts device contents is_faulted seats home lender ahead old round.home1 round.lender1 round.ahead1 round.told round.fetched job is round.fetches in
       let second = tends-acts device contents is_faulted seats round.mark connections.is_short gathering round.noted1 round.home1 round.lender1 round.ahead1 round.told round.home2 round.lender2 round.ahead2 round.tended round.before first.job'
       closed first.is_job round.tends in
-      let visits = serves-acts seats c round.noted1.closed connections connections' round.tended round.served seated round.visits unseated free in
-      let third = tends-acts device contents is_faulted visits.seats' read connections'.is_short (record round.noted1 { lines = connections'.filling.lines }) noted round.home2 round.lender2 round.ahead2 round.served home' lender' ahead' new round.after second.job'
+      let visits = serves-acts seats c round.noted1.closed connections connections' round.copied round.served seated round.visits unseated free in
+      let served = serves-then (copied-acts seats round.tended round.copied (makes-alone round.local copying copying' round.tended round.copied round.made round.makes)) visits.serves in
+      let third = tends-acts device contents is_faulted visits.seats' read connections'.is_short (record (with_copy copying'.stage round.noted1) { lines = connections'.filling.lines }) noted round.home2 round.lender2 round.ahead2 round.served home' lender' ahead' new round.after second.job'
       closed' second.is_job round.tends_again in
       record {
         seats' = visits.seats';
         job' = third.job';
         is_job = third.is_job;
         seated = visits.seated;
-        does = all-does (IsOfRound device contents is_faulted known connections gathering home lender ahead old read connections' noted home' lender' ahead' new is_busy round)
-            seats visits.seats' old round.told round.tended round.served new job first.job' second.job' third.job' first.does second.does visits.serves third.does
+        does = all-does (IsOfRound device contents is_faulted known connections gathering home lender ahead copying old read connections' noted home' lender' ahead' copying' new is_busy round)
+            seats visits.seats' old round.told round.tended round.served new job first.job' second.job' third.job' first.does second.does served third.does
             (inl first.is_job) (inr (inl second.is_job)) (inr (inr third.is_job));
       }

@@ -28,7 +28,7 @@ use Rattle.serving.specs.declared.turns.Served.TheVariants as ended
 serves-none : (seats : List (Option ℕ)) (s : Sequencing) → ServesActs seats s seats s
 serves-none seats s = record { acts = []; are = λ node. refl; none_handed = refl }
 
-serves-then : {seats at seats' : List (Option ℕ)} {old between new : Sequencing} → ServesActs seats old at between → ServesActs at between seats' new → ServesActs seats old seats' new
+pub serves-then : {seats at seats' : List (Option ℕ)} {old between new : Sequencing} → ServesActs seats old at between → ServesActs at between seats' new → ServesActs seats old seats' new
 serves-then {seats} {at} {seats'} {old} {between} {new} first second = record {
   acts = first.acts ++ second.acts;
   are = λ node. acts-append (with_seats seats old node) (with_seats at between node) (with_seats seats' new node) first.acts second.acts (first.are node) (second.are node);

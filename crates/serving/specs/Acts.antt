@@ -24,6 +24,7 @@ use Rattle.serving.specs.Places.{connection_at}
 use Rattle.serving.specs.Tending.{TakesRound}
 use Rattle.serving.specs.Visiting.{Admits, floor_of}
 use Rattle.serving.specs.declared.commit_job.CommitJob.{CommitJob}
+use Rattle.serving.specs.declared.copying.CopyMaker.{CopyMaker}
 use Rattle.serving.specs.declared.gathering.Gathering.{Gathering}
 use Rattle.serving.specs.declared.open_connection.OpenConnection.{OpenConnection}
 use Rattle.serving.specs.declared.open_connections.OpenConnections.{OpenConnections}
@@ -86,9 +87,11 @@ module _ {E : Type 0} (device : E → State) (contents : E → Contents) (is_fau
   abbrev pub DoesOrVain : List (Option ℕ) → Sequencing → CommitJob E → List (Option ℕ) → Sequencing → CommitJob E → Type 0
   DoesOrVain seats old job seats' new job' = DoesActs seats old job seats' new job' ⊎ SetsAsideInVain job'
 
-  module _ (known : MarkView) (connections : OpenConnections) (gathering : Gathering) (home : Option (CommitJob E)) (lender : EndView (CommitJob E)) (ahead : Ahead) (old : Sequencing)
-      (read : MarkView) (connections' : OpenConnections) (noted : Gathering) (home' : Option (CommitJob E)) (lender' : EndView (CommitJob E)) (ahead' : Ahead) (new : Sequencing) (is_busy : Bool)
-      (round : TakesRound device contents is_faulted known connections gathering home lender ahead old read connections' noted home' lender' ahead' new is_busy) where
+  module _ (known : MarkView) (connections : OpenConnections) (gathering : Gathering) (home : Option (CommitJob E)) (lender : EndView (CommitJob E)) (ahead : Ahead)
+      (copying : CopyMaker) (old : Sequencing)
+      (read : MarkView) (connections' : OpenConnections) (noted : Gathering) (home' : Option (CommitJob E)) (lender' : EndView (CommitJob E)) (ahead' : Ahead)
+      (copying' : CopyMaker) (new : Sequencing) (is_busy : Bool)
+      (round : TakesRound device contents is_faulted known connections gathering home lender ahead copying old read connections' noted home' lender' ahead' copying' new is_busy) where
     -- the job as the round found it, as it left it before the connections were served, or as it left it
     abbrev pub IsOfRound : CommitJob E → Type 0
     IsOfRound at = IsJob round.home1 round.lender1 round.ahead1 at ⊎ IsJob round.home2 round.lender2 round.ahead2 at ⊎ IsJob home' lender' ahead' at
@@ -104,9 +107,11 @@ module _ {E : Type 0} (device : E → State) (contents : E → Contents) (is_fau
   -- A round of the node's thread is a list of acts. Who was admitted in it is this connection of the machine, if it has no seat and nobody else has the one that it got.
   abbrev pub RoundsAreActs : Type 0
   RoundsAreActs =
-      (seats : List (Option ℕ)) (c : ℕ) (known : MarkView) (connections : OpenConnections) (gathering : Gathering) (home : Option (CommitJob E)) (lender : EndView (CommitJob E)) (ahead : Ahead) (old : Sequencing)
-      (read : MarkView) (connections' : OpenConnections) (noted : Gathering) (home' : Option (CommitJob E)) (lender' : EndView (CommitJob E)) (ahead' : Ahead) (new : Sequencing) (is_busy : Bool) (job : CommitJob E)
-      → (round : TakesRound device contents is_faulted known connections gathering home lender ahead old read connections' noted home' lender' ahead' new is_busy)
+      (seats : List (Option ℕ)) (c : ℕ) (known : MarkView) (connections : OpenConnections) (gathering : Gathering) (home : Option (CommitJob E)) (lender : EndView (CommitJob E)) (ahead : Ahead)
+      (copying : CopyMaker) (old : Sequencing)
+      (read : MarkView) (connections' : OpenConnections) (noted : Gathering) (home' : Option (CommitJob E)) (lender' : EndView (CommitJob E)) (ahead' : Ahead)
+      (copying' : CopyMaker) (new : Sequencing) (is_busy : Bool) (job : CommitJob E)
+      → (round : TakesRound device contents is_faulted known connections gathering home lender ahead copying old read connections' noted home' lender' ahead' copying' new is_busy)
       → ClosesAll round.before → ClosesAll round.after → IsJob home lender ahead job → AreSeated seats connections.places.connections.items
-      → ((other : ℕ) → ¬ HasSeat seats c other) → ((admits : Admits (floor_of connections round.tended) round.visits.admitted) (d : ℕ) → ¬ HasSeat seats d admits.connection.arrival.seat)
-      → RoundDoesActs known connections gathering home lender ahead old read connections' noted home' lender' ahead' new is_busy round seats job
+      → ((other : ℕ) → ¬ HasSeat seats c other) → ((admits : Admits (floor_of connections round.copied) round.visits.admitted) (d : ℕ) → ¬ HasSeat seats d admits.connection.arrival.seat)
+      → RoundDoesActs known connections gathering home lender ahead copying old read connections' noted home' lender' ahead' copying' new is_busy round seats job

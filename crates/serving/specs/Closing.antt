@@ -24,7 +24,7 @@ ClosesDue due old before new after false = ((due ≡ false) ⊎ (¬ MayClose old
 abbrev pub ClosesGroup : Gathering → ℕ → Bool → Sequencing → Waiting Work → Sequencing → Waiting Work → Gathering → Bool → Type 0
 ClosesGroup gathering remote is_short old before new after noted did =
     ClosesDue (is_group_due gathering old.position remote is_short) old before new after did
-    × (noted.quiet_rounds ≡ gathering.quiet_rounds) × (did ≡ true → noted.closed ≡ old.position) × (did ≡ false → noted.closed ≡ gathering.closed) × (noted.lines ≡ gathering.lines)
+    × (noted.quiet_rounds ≡ gathering.quiet_rounds) × (did ≡ true → noted.closed ≡ old.position) × (did ≡ false → noted.closed ≡ gathering.closed) × (noted.lines ≡ gathering.lines) × (noted.is_awaited ≡ gathering.is_awaited)
 
 -- What has ended, where it is due to be a list.
 abbrev pub ClosesList : Gathering → ℕ → Bool → Sequencing → Waiting Work → Sequencing → Waiting Work → Bool → Type 0
@@ -54,10 +54,15 @@ pub record ClosesBoth (gathering : Gathering) (remote : ℕ) (is_short : Bool) (
   pub list : ClosesList noted remote (is_tight is_short is_closed between) between middle new after is_listed
   pub did_is : did ≡ (is_closed || is_listed)
 
+-- What a refusal of memory leaves of a group that was due: it is not closed, and nothing is noted.
+abbrev pub LacksGroup : Gathering → ℕ → Bool → Sequencing → Waiting Work → Sequencing → Waiting Work → Gathering → Type 0
+LacksGroup gathering remote is_short old before new after noted =
+    LacksMemory (is_group_due gathering old.position remote is_short) old before new after × (noted ≡ gathering)
+
 -- What a refusal of memory leaves: the group that was due is not closed; or what was due of it is, and the list that was due is not.
 abbrev pub LacksBoth : Gathering → ℕ → Bool → Sequencing → Waiting Work → Sequencing → Waiting Work → Gathering → Type 0
 LacksBoth gathering remote is_short old before new after noted =
-    LacksMemory (is_group_due gathering old.position remote is_short) old before new after
+    LacksGroup gathering remote is_short old before new after noted
     ⊎ ((between : Sequencing) × (middle : Waiting Work) × (is_closed : Bool) × ClosesGroup gathering remote is_short old before between middle noted is_closed
     × LacksMemory (is_list_due noted between.position remote (is_tight is_short is_closed between) (length between.ended)) between middle new after)
 

@@ -3,6 +3,7 @@ pub mod Again
 pub mod Callers
 pub mod Closing
 pub mod CommitJob
+pub mod Copying
 pub mod Ending
 pub mod Filling
 pub mod Roomed

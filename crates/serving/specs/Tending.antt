@@ -18,11 +18,15 @@ use Rattle.primary.specs.Standing.{IsTold}
 use Rattle.pipes.specs.declared.limits.TheConstants.{PIPE_ITEMS}
 use Rattle.serving.specs.Closing.{ClosesAhead, ClosesBoth, LacksBoth}
 use Rattle.serving.specs.CommitJob.{DoesSteps, IsExtended}
+use Rattle.serving.specs.Copying.{MakesCopy, did_make}
+use Rattle.serving.specs.Gathering.{with_copy}
 use Rattle.serving.specs.declared.ahead.Ahead.{Ahead}
 use Rattle.serving.specs.Serving.{Serves}
 use Rattle.serving.specs.Steps.{does_step, is_free_worth}
 use Rattle.serving.specs.Visiting.{ServesRound}
 use Rattle.serving.specs.declared.commit_job.CommitJob.{CommitJob}
+use Rattle.serving.specs.declared.copying.CopyMade.{CopyMade}
+use Rattle.serving.specs.declared.copying.CopyMaker.{CopyMaker}
 use Rattle.serving.specs.declared.committing.Stepped.{Stepped}
 use Rattle.serving.specs.declared.gathering.Gathering.{Gathering}
 use Rattle.serving.specs.declared.open_connections.OpenConnections.{OpenConnections}
@@ -126,10 +130,12 @@ module _ {E : Type 0} (device : E → State) (contents : E → Contents) (is_fau
   Tends read is_short gathering noted None lender ahead old home' lender' ahead' new tended =
       (tended.job ≡ came.Away) × (home' ≡ None) × (lender' ≡ lender) × ClosesAhead gathering read.remote old ahead new ahead' noted tended.closed
 
-  -- A round of the node's thread: it looks for the job, tends it by the marks as they are then, serves connections, and tends it once more. `is_busy` is whether
-  -- anything was done.
-  pub record TakesRound (known : MarkView) (connections : OpenConnections) (gathering : Gathering) (home : Option (CommitJob E)) (lender : EndView (CommitJob E)) (ahead : Ahead) (old : Sequencing)
-      (read : MarkView) (connections' : OpenConnections) (noted : Gathering) (home' : Option (CommitJob E)) (lender' : EndView (CommitJob E)) (ahead' : Ahead) (new : Sequencing) (is_busy : Bool) : Type 0 where
+  -- A round of the node's thread: it looks for the job, tends it by the marks as they are then, makes what a newcomer is to get next, serves connections, and tends
+  -- the job once more. `is_busy` is whether anything was done.
+  pub record TakesRound (known : MarkView) (connections : OpenConnections) (gathering : Gathering) (home : Option (CommitJob E)) (lender : EndView (CommitJob E)) (ahead : Ahead)
+      (copying : CopyMaker) (old : Sequencing)
+      (read : MarkView) (connections' : OpenConnections) (noted : Gathering) (home' : Option (CommitJob E)) (lender' : EndView (CommitJob E)) (ahead' : Ahead)
+      (copying' : CopyMaker) (new : Sequencing) (is_busy : Bool) : Type 0 where
     pub fetched : Fetched
     pub home1 : Option (CommitJob E)
     pub lender1 : EndView (CommitJob E)
@@ -144,11 +150,17 @@ module _ {E : Type 0} (device : E → State) (contents : E → Contents) (is_fau
     pub ahead2 : Ahead
     pub tended : Sequencing
     pub tends : Tends mark connections.is_short gathering noted1 home1 lender1 ahead1 told home2 lender2 ahead2 tended before
+    pub made : CopyMade
+    pub copied : Sequencing
+    -- by the local mark that was known then
+    pub local : ℕ
+    pub makes : MakesCopy local copying tended copying' copied made
     pub has_served : Bool
     pub served : Sequencing
-    pub serves : Serves tended served
-    pub visits : ServesRound noted1.closed connections connections' tended served
+    pub serves : Serves copied served
+    pub visits : ServesRound noted1.closed connections connections' copied served
     pub after : Tended
-    pub tends_again : Tends read connections'.is_short (record noted1 { lines = connections'.filling.lines }) noted home2 lender2 ahead2 served home' lender' ahead' new after
+    pub tends_again : Tends read connections'.is_short (record (with_copy copying'.stage noted1) { lines = connections'.filling.lines }) noted home2 lender2 ahead2 served home' lender' ahead' new after
     pub rises : (known.remote ≤ mark.remote) × (mark.remote ≤ read.remote) × (known.heard ≡ 1 → mark.heard ≡ 1) × (mark.heard ≡ 1 → read.heard ≡ 1)
-    pub is_busy_is : is_busy ≡ (((did_fetch fetched || did_tend before) || has_served) || did_tend after)
+    pub shown : (mark.local ≤ local) × (local ≤ read.local)
+    pub is_busy_is : is_busy ≡ (((did_fetch fetched || did_make made) || has_served) || (did_tend before || did_tend after))

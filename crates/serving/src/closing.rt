@@ -4,8 +4,8 @@ ghost use Rattle.extent_heap.specs.Room.{has_room};
 ghost use Rattle.primary.specs.Recalling.{BackKeeps, Past};
 ghost use Rattle.primary.specs.Standing.{BackStands};
 ghost use Rattle.primary.specs.Ahead.{GoesAhead};
-ghost use Rattle.serving.specs.Closing.{ClosesAhead, ClosesBoth, ClosesGroup, ClosesList, LacksBoth, LacksMemory};
-ghost use Rattle.serving.specs.Gathering.{is_group_due, is_list_due};
+ghost use Rattle.serving.specs.Closing.{ClosesAhead, ClosesBoth, ClosesGroup, ClosesList, LacksBoth, LacksGroup, LacksMemory};
+ghost use Rattle.serving.specs.Gathering.{is_list_due};
 ghost use Rattle.serving.specs.declared.gathering.TheConstants.{LISTED_AT_ONCE};
 
 use crate::ahead::Ahead;
@@ -97,7 +97,7 @@ fn close_group<E: Durable, K: Keyspace>(
 ) -> Result<bool, Refusal>
     ensures closes { IfOk result (ClosesGroup gathering.old remote is_short front.old.sequencer back.old.work front.new.sequencer back.new.work gathering.new) }
     ensures cause { IfErr result (λ refusal. refusal ≡ Refusal.Memory) }
-    ensures lacks { OnErr result (LacksMemory (is_group_due gathering.old front.old.sequencer.position remote is_short) front.old.sequencer back.old.work front.new.sequencer back.new.work) }
+    ensures lacks { OnErr result (LacksGroup gathering.old remote is_short front.old.sequencer back.old.work front.new.sequencer back.new.work gathering.new) }
     ensures stands { BackStands E.device E.contents back.old front.old.sequencer [] → BackStands E.device E.contents back.new front.new.sequencer [] }
     ensures committer { back.new.committer ≡ back.old.committer }
     ensures at { front.new.sequencer.position ≡ front.old.sequencer.position }

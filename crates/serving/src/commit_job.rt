@@ -1,12 +1,13 @@
 //! What the committer's thread is lent, and what it does with it.
-ghost use Rattle.std.specs.Prelude.{◌≡◌, ℕ, [], Ok, Err, None, IfErr, IfOk, OnOk};
+ghost use Rattle.std.specs.Prelude.{◌≡◌, ◌↔◌, ℕ, [], Ok, Err, None, false, IfErr, IfOk, OnOk};
 ghost use Rattle.primary.specs.Recalling.{BackKeeps, Past};
 ghost use Rattle.primary.specs.Standing.{BackStands, IsTold};
-ghost use Rattle.serving.specs.CommitJob.{DoesSteps, IsLed, IsShown, IsShownAfter, StandsAfter};
+ghost use Rattle.serving.specs.CommitJob.{DoesSteps, HasNothingAtHome, IsLed, IsShown, IsShownAfter, StandsAfter};
 ghost use Rattle.serving.specs.declared.committing.Stepped.{Stepped as Steps};
 
 use crate::committing::{Stepped, take_steps};
 use crate::step_time::StepTime;
+use group_commit::Done;
 use kv_types::Refusal;
 use lending::{Borrower, Terms};
 use marks::ThreadMarks;
@@ -50,6 +51,38 @@ impl<E: Durable> Terms<CommitJob<E>> for Committing<E> {
     ghost offers = { IsLed E.device E.contents };
 
     ghost keeps = { DoesSteps E.device E.contents E.is_faulted };
+}
+
+/// A job of which no step was taken yet.
+pub(crate) fn new_job<E>(
+    back: Back<E>,
+    marks: ThreadMarks,
+    groups: RingOutlet<Group>,
+    link: Waker,
+) -> CommitJob<E>
+    ensures { (result.back ≡ back) × (result.marks ≡ marks) × (result.remote ≡ 0) }
+{
+    let last = Done::Idle;
+    CommitJob {
+        back,
+        marks,
+        groups,
+        link,
+        is_for_commits: false,
+        remote: 0,
+        came: Ok(Stepped { last, any: false }),
+        step_time: StepTime::unknown(),
+    }
+}
+
+/// Whether something may make room: what the job has in hand, or is lent for.
+pub(crate) fn is_room_coming<E: Durable>(home: &Option<CommitJob<E>>) -> bool
+    ensures { result ≡ false ↔ HasNothingAtHome E.contents home.now }
+{
+    match home {
+        Some(job) => job.back.is_room_coming(),
+        None => true,
+    }
 }
 
 /// Takes the steps that are due.

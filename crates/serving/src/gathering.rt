@@ -1,8 +1,9 @@
 //! When the changes that wait become a group, and the versions that have ended a free list.
-ghost use Rattle.std.specs.Prelude.{◌≡◌, ◌+◌, ◌-◌, min, if◌then◌else◌};
+ghost use Rattle.std.specs.Prelude.{◌≡◌, ◌+◌, ◌-◌, false, min, if◌then◌else◌};
 ghost use Rattle.serving.specs.Gathering as spec;
 ghost use Rattle.serving.specs.declared.gathering.TheConstants.{IDLE_ROUNDS};
 
+use crate::copying::CopyStage;
 use crate::filling::MOST_LINES;
 use crate::making::NODE_SPIN;
 use model::MAX_PARTS;
@@ -35,17 +36,20 @@ pub(crate) struct Gathering {
     pub(crate) lines: u64,
     /// How many rounds in a row were without work, `IDLE_ROUNDS` at most.
     pub(crate) quiet_rounds: u32,
+    /// Whether a newcomer waits for a copy of all records that is to be pinned.
+    pub(crate) is_awaited: bool,
 }
 
 impl Gathering {
-    /// All changes up to this position are in groups, and the node has work.
+    /// All changes up to this position are in groups, the node has work, and no newcomer waits for a copy.
     pub(crate) fn new(closed: u64) -> Gathering
-        ensures { result ≡ record { closed = closed; lines = 0; quiet_rounds = 0 } }
+        ensures { result ≡ record { closed = closed; lines = 0; quiet_rounds = 0; is_awaited = false } }
     {
         Gathering {
             closed,
             lines: 0,
             quiet_rounds: 0,
+            is_awaited: false,
         }
     }
 
@@ -67,16 +71,25 @@ impl Gathering {
         self.lines = lines;
     }
 
+    /// A newcomer's copy has come so far.
+    pub(crate) fn note_copy(&mut self, stage: CopyStage)
+        ensures { self.new ≡ spec.with_copy stage self.old }
+    {
+        self.is_awaited = stage.awaited_by().is_some();
+    }
+
     /// Whether the changes up to this position that wait become a group: fewer than `most_on_the_way` are in groups that the standby has not acknowledged, some
     /// wait, and as many as those, or as a group may have; or a request waits for room (`is_short`). So a lone client waits for nobody, and many clients' changes
-    /// do not go out one by one while the fences and the link are busy with a few.
+    /// do not go out one by one while the fences and the link are busy with a few. Where a copy is awaited, whatever waits does, however much is on the way: a
+    /// position can be pinned only where nothing waits, and the clients wait for a standby that is lost.
     pub(crate) fn is_group_due(&self, position: u64, remote: u64, is_short: bool) -> bool
         ensures { result ≡ spec.is_group_due self.now position remote is_short }
     {
         let waiting = self.waiting(position);
         let on_the_way = self.closed.saturating_sub(remote);
         let is_large = on_the_way.min(MAX_PARTS as u64) <= waiting;
-        waiting > 0 && on_the_way < self.most_on_the_way() && (is_short || is_large)
+        let is_usual = on_the_way < self.most_on_the_way() && (is_short || is_large);
+        waiting > 0 && (self.is_awaited || is_usual)
     }
 
     /// While so many changes are on the way, those that wait are not closed.

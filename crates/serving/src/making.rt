@@ -5,6 +5,8 @@ ghost use Rattle.standby_stream.specs.Stream.{new_stream};
 ghost use Rattle.links.specs.Ends.{Begin};
 
 use crate::accepting::Acceptor;
+use crate::copying::{CopyMaker, CopyStage};
+use crate::mark_seats::{Seats, new_seats};
 use crate::node::Node;
 use crate::open_connections::OpenConnections;
 use crate::setup::ClientLimits;
@@ -12,9 +14,9 @@ use crate::shared_entrance::SharedEntrance;
 use crate::watching::Watcher;
 use clients::{Driver, DriverEntrance, SocketRoom};
 use kv_types::Refusal;
-use links::{AckReceiver, LinkSender};
+use links::{AckReceiver, CopyAsk, CopyDesk, CopyStep, LinkFlags, LinkSender, SenderThread};
 use lobby::Entrance;
-use marks::{Committer, MarkSeat, Marks, Reader, ThreadMarks};
+use marks::{MarkSeat, Marks, Reader, ThreadMarks};
 use model::Group;
 use node_log::{FillReader, FillSetter, Shown, new_fill};
 use pipes::{RingOutlet, RingPipe};
@@ -49,23 +51,6 @@ pub(crate) struct Threading {
     pub(crate) wake: Waker,
 }
 
-/// The marks, as each thread has them.
-#[derive(Drop)]
-struct Seats {
-    marks: Arc<Marks>,
-    root: MarkSeat,
-    /// The committer's.
-    local: ThreadMarks,
-    /// The node's.
-    node: ThreadMarks,
-    remote: ThreadMarks,
-    watch: ThreadMarks,
-    /// The watcher's.
-    observer: ThreadMarks,
-    ghost of_these: { root.marks ≡ arc_value marks },
-    ghost raises: { remote.raises_remote ≡ true },
-}
-
 /// What the threads of the link own, and the node's ends of what lies between.
 #[derive(Drop)]
 struct LinkEnds {
@@ -74,6 +59,8 @@ struct LinkEnds {
     groups: RingOutlet<Group>,
     /// Wakes the link's sender.
     link: Waker,
+    /// Makes a newcomer's copy for it.
+    copying: CopyMaker,
 }
 
 /// What lies between the threads of the link and the node's, and what the sender keeps.
@@ -81,11 +68,15 @@ struct LinkEnds {
 struct Wires {
     outgoing: Outgoing,
     groups: RingPipe<Group>,
+    /// Where the sender asks the node's thread for a newcomer's copy, and is given it.
+    desk: CopyDesk,
+    copying: CopyMaker,
     sleeper: Sleeper,
     link: Waker,
     /// The receiver's wakers, of the sender and of the node, and the sender's, of the node.
     wakers: (Waker, Waker, Waker),
-    is_broken: (Arc<Flag>, Arc<Flag>),
+    /// What the receiver tells the sender.
+    flags: (Arc<LinkFlags>, Arc<LinkFlags>),
 }
 
 /// What the acceptor and the drivers own, and what the node's thread has of the connections and sleeps at.
@@ -183,6 +174,7 @@ fn assemble(
         receiver,
         groups,
         link,
+        copying,
     } = link;
     let node = Node {
         connections,
@@ -190,6 +182,7 @@ fn assemble(
         committer_marks,
         groups,
         link,
+        copying,
         sleeper,
         idle: Idle::new(NODE_SPIN),
         listener_closed,
@@ -226,28 +219,27 @@ fn new_link(
     let Wires {
         outgoing,
         groups,
+        desk,
+        copying,
         sleeper,
         link,
         wakers,
-        is_broken,
+        flags,
     } = new_wires(alloc, epoch, opening, node)?;
-    let receiver = AckReceiver::new(&outgoing, remote, due, wakers.0, wakers.1, is_broken.0);
-    let sender = LinkSender::new(
-        address,
-        pair,
-        outgoing,
-        groups.inlet,
+    let receiver = AckReceiver::new(&outgoing, remote, due, wakers.0, wakers.1, flags.0);
+    let thread = SenderThread {
         sleeper,
-        wakers.2,
-        is_broken.1,
-        watch,
-        SPIN,
-    );
+        node: wakers.2,
+        flags: flags.1,
+        spin: SPIN,
+    };
+    let sender = LinkSender::new(address, pair, outgoing, groups.inlet, desk, thread, watch);
     Ok(LinkEnds {
         sender,
         receiver,
         groups: groups.outlet,
         link,
+        copying,
     })
 }
 
@@ -258,17 +250,31 @@ fn new_wires(alloc: Global, epoch: u64, opening: Opening, node: &Waker) -> Resul
 {
     let (sleeper, link) = new_sleeper(alloc)?;
     let groups = RingPipe::<Group>::new(alloc)?;
-    let is_broken = shared(alloc, Flag::new())?;
+    let (desk, copying) = new_desk(alloc, &link)?;
+    let flags = shared(alloc, LinkFlags::new())?;
     let wakers = three_wakers(&link, node)?;
     let outgoing = Outgoing::new(alloc, epoch, opening)?;
     Ok(Wires {
         outgoing,
         groups,
+        desk,
+        copying,
         sleeper,
         link,
         wakers,
-        is_broken,
+        flags,
     })
+}
+
+/// Where the sender of the link asks for a newcomer's copy, and what makes it. `link` wakes the sender.
+fn new_desk(alloc: Global, link: &Waker) -> Result<(CopyDesk, CopyMaker), AllocError>
+    ensures { IfOk result (λ made. made.1.stage ≡ CopyStage.Idle) }
+{
+    let asks = RingPipe::<CopyAsk>::new(alloc)?;
+    let copies = RingPipe::<CopyStep>::new(alloc)?;
+    let desk = CopyDesk::new(asks.outlet, copies.inlet);
+    let copying = CopyMaker::new(asks.inlet, copies.outlet, link.another()?);
+    Ok((desk, copying))
 }
 
 /// One more of the first waker, and two of the other.
@@ -351,47 +357,4 @@ fn new_ready(alloc: Global, node: &Waker) -> Result<(Arc<ReadyList>, Arc<ReadyLi
 fn new_entrance(alloc: Global) -> Result<(Arc<SharedEntrance>, Arc<SharedEntrance>), Refusal> {
     let entrance = shared(alloc, Mutex::new(Entrance::new(alloc)?))?;
     Ok(entrance)
-}
-
-/// Marks that begin where the image is durable, with a seat for each thread.
-fn new_seats(alloc: Global, committed: &Committed) -> Result<Seats, Refusal>
-    ensures { IfOk result (λ seats. (seats.local.raises_local ≡ true) × (seats.local.local ≡ committed.now)) }
-{
-    let (marks, root) = Marks::new(alloc, committed)?;
-    let mut root = root;
-    let local = marks.split_seat::<Committer>(&mut root);
-    let remote = marks.split_seat::<marks::Link>(&mut root);
-    let watch = marks.split_seat::<Reader>(&mut root);
-    let node = marks.split_seat::<Reader>(&mut root);
-    let observer = marks.split_seat::<Reader>(&mut root);
-    let marks = Arc::new(alloc, marks)?;
-    let (local, node) = two_marks(&marks, local, node)?;
-    let (remote, watch) = two_marks(&marks, remote, watch)?;
-    let observer = ThreadMarks::new(Arc::try_clone(&marks)?, observer);
-    Ok(Seats {
-        marks,
-        root,
-        local,
-        node,
-        remote,
-        watch,
-        observer,
-    })
-}
-
-/// The marks with one seat, and with another.
-fn two_marks(
-    marks: &Arc<Marks>,
-    one: MarkSeat,
-    other: MarkSeat,
-) -> Result<(ThreadMarks, ThreadMarks), AllocError>
-    requires { (one.marks ≡ arc_value marks.now) × (other.marks ≡ arc_value marks.now) }
-    ensures { IfOk result (λ made. (made.0 ≡ one.knows) × (made.1 ≡ other.knows)) }
-{
-    let first = Arc::try_clone(marks)?;
-    let second = Arc::try_clone(marks)?;
-    Ok((
-        ThreadMarks::new(first, one),
-        ThreadMarks::new(second, other),
-    ))
 }

@@ -4,6 +4,8 @@ ghost use Rattle.marks.specs.declared.view.MarkView.{MarkView};
 ghost use Rattle.placing.specs.Fill.{fill_of};
 ghost use Rattle.primary.specs.Settled.{HasNothingOpen};
 ghost use Rattle.primary.specs.Standing.{Stands};
+ghost use Rattle.serving.specs.Copying.{MakesCopy};
+ghost use Rattle.serving.specs.Gathering.{with_copy};
 ghost use Rattle.serving.specs.CommitJob.{GoesBy, HasNothingAtHome, IsHereOrLent, IsShown, remote_of};
 ghost use Rattle.serving.specs.Keeping.{JobKeepsThrough, PastGoesOn, RunGoesOn, job_of};
 ghost use Rattle.serving.specs.Serving.{HasRead, Serves};
@@ -12,14 +14,14 @@ ghost use Rattle.serving.specs.Visiting.{ServesRound};
 
 use crate::ahead::Ahead;
 use crate::closing::{close_due, close_due_ahead};
-use crate::commit_job::{CommitJob, Committing, run_job, settle};
-use crate::committing::{Stepped, is_commit_due, is_due};
+use crate::commit_job::{CommitJob, Committing, is_room_coming, new_job, run_job, settle};
+use crate::committing::{is_commit_due, is_due};
+use crate::copying::{CopyMade, CopyMaker};
 use crate::gathering::Gathering;
 use crate::open_connections::OpenConnections;
 use crate::step_time::StepTime;
 use crate::stop::Stop;
 use crate::tended::{Fetched, JobCame, Tended};
-use group_commit::Done;
 use kv_types::Refusal;
 use lending::Lender;
 use marks::ThreadMarks;
@@ -46,6 +48,8 @@ pub struct Node {
     pub groups: RingOutlet<Group>,
     /// Wakes the link's sender.
     pub link: Waker,
+    /// Makes a newcomer's copy for the link.
+    pub(crate) copying: CopyMaker,
     pub sleeper: Sleeper,
     pub idle: Idle,
     /// Set once no further connection is accepted.
@@ -77,6 +81,7 @@ struct NodeState<E: Durable, K: Keyspace> {
     /// What was closed since, where it is.
     ahead: Ahead,
     gathering: Gathering,
+    copying: CopyMaker,
     /// Where it is shown how much the front holds.
     fill: FillSetter,
 }
@@ -105,6 +110,7 @@ pub(crate) fn serve<R: Wait + Clock, E: Durable + Drop, K: Keyspace + Drop>(
         committer_marks,
         groups,
         link,
+        copying,
         sleeper,
         mut idle,
         listener_closed,
@@ -120,6 +126,7 @@ pub(crate) fn serve<R: Wait + Clock, E: Durable + Drop, K: Keyspace + Drop>(
         home: Some(new_job(back, committer_marks, groups, link)),
         ahead: Ahead::new(ahead),
         gathering,
+        copying,
         fill,
     };
     let stop = take_rounds(rt, alloc, &mut state, &mut idle, &sleeper, &listener_closed);
@@ -173,8 +180,8 @@ fn take_round<R: Wait + Clock, E: Durable + Drop, K: Keyspace>(
     ensures remote { OnOk result ((remote_of state.new.home ≤ state.new.marks.remote) × (remote_of state.new.lender.value ≤ state.new.marks.remote)) }
     ensures read { HasRead state.old.marks state.new.marks }
     ensures round { IfOk result (TakesRound E.device E.contents E.is_faulted state.old.marks state.old.connections state.old.gathering
-        state.old.home state.old.lender state.old.ahead state.old.front.sequencer state.new.marks state.new.connections state.new.gathering
-        state.new.home state.new.lender state.new.ahead state.new.front.sequencer) }
+        state.old.home state.old.lender state.old.ahead state.old.copying state.old.front.sequencer state.new.marks state.new.connections state.new.gathering
+        state.new.home state.new.lender state.new.ahead state.new.copying state.new.front.sequencer) }
     ensures past { OnOk result (PastGoesOn E.device E.contents E.is_faulted state.new.marks.remote (job_of state.old.home state.old.lender.value state.old.ahead) state.old.front.sequencer
         (job_of state.new.home state.new.lender.value state.new.ahead) state.new.front.sequencer) }
     ensures shown { OnOk result (state.new.fill ≡ fill_of (state.new.front.sequencer).table (state.new.front.sequencer).room) }
@@ -186,10 +193,29 @@ fn take_round<R: Wait + Clock, E: Durable + Drop, K: Keyspace>(
         &mut state.ahead,
     )?;
     let before = commit_due(rt, alloc, state)?;
+    let made = make_copy(alloc, state);
     let served = serve_connections(rt, alloc, state);
     let after = commit_due(rt, alloc, state)?;
     state.fill.show(&state.front.fill());
-    Ok(fetched.is_busy() | before.is_busy() | served | after.is_busy())
+    let did_tend = before.is_busy() | after.is_busy();
+    Ok(fetched.is_busy() | made.is_busy() | served | did_tend)
+}
+
+/// Makes what a newcomer of which the link knows is to get next, before anything more is called. Answers what was done.
+fn make_copy<E: Durable, K: Keyspace>(alloc: Global, state: &mut NodeState<E, K>) -> CopyMade
+    ensures made { MakesCopy state.new.marks.local state.old.copying state.old.front.sequencer state.new.copying state.new.front.sequencer result }
+    ensures read { HasRead state.old.marks state.new.marks }
+    ensures gathering { state.new.gathering ≡ with_copy state.new.copying.stage state.old.gathering }
+    ensures home { state.new.home ≡ state.old.home }
+    ensures lender { state.new.lender ≡ state.old.lender }
+    ensures ahead { state.new.ahead ≡ state.old.ahead }
+    ensures connections { state.new.connections ≡ state.old.connections }
+{
+    let made = state
+        .copying
+        .tend(alloc, &mut state.front, &mut state.marks);
+    state.gathering.note_copy(state.copying.stage);
+    made
 }
 
 /// Takes in who waits at the entrance, serves who called, and notes the lines of what waits then. Answers whether there was anybody.
@@ -206,6 +232,7 @@ fn serve_connections<R: Wait, E: Durable + Drop, K: Keyspace>(
     ensures lender { state.new.lender ≡ state.old.lender }
     ensures ahead { state.new.ahead ≡ state.old.ahead }
     ensures gathering { state.new.gathering ≡ record state.old.gathering { lines = state.new.connections.filling.lines } }
+    ensures copying { state.new.copying ≡ state.old.copying }
     ensures visits { ServesRound state.old.gathering.closed state.old.connections state.new.connections state.old.front.sequencer state.new.front.sequencer }
 {
     let is_working = is_room_coming(&state.home);
@@ -237,6 +264,7 @@ fn commit_due<R: Clock, E: Durable + Drop, K: Keyspace>(
     ensures tends { IfOk result (Tends E.device E.contents E.is_faulted state.new.marks state.old.connections.is_short state.old.gathering
         state.new.gathering state.old.home state.old.lender state.old.ahead state.old.front.sequencer state.new.home state.new.lender state.new.ahead state.new.front.sequencer) }
     ensures connections { state.new.connections ≡ state.old.connections }
+    ensures copying { state.new.copying ≡ state.old.copying }
     ensures past { OnOk result (JobKeepsThrough E.device E.contents E.is_faulted state.new.marks.remote (job_of state.old.home state.old.lender.value state.old.ahead) state.old.front.sequencer
         (job_of state.new.home state.new.lender.value state.new.ahead) state.new.front.sequencer) }
 {
@@ -256,38 +284,6 @@ fn commit_due<R: Clock, E: Durable + Drop, K: Keyspace>(
         is_heard,
         is_short,
     )
-}
-
-/// A job of which no step was taken yet.
-fn new_job<E>(
-    back: Back<E>,
-    marks: ThreadMarks,
-    groups: RingOutlet<Group>,
-    link: Waker,
-) -> CommitJob<E>
-    ensures { (result.back ≡ back) × (result.marks ≡ marks) × (result.remote ≡ 0) }
-{
-    let last = Done::Idle;
-    CommitJob {
-        back,
-        marks,
-        groups,
-        link,
-        is_for_commits: false,
-        remote: 0,
-        came: Ok(Stepped { last, any: false }),
-        step_time: StepTime::unknown(),
-    }
-}
-
-/// Whether something may make room: what the job has in hand, or is lent for.
-fn is_room_coming<E: Durable>(home: &Option<CommitJob<E>>) -> bool
-    ensures { result ≡ false ↔ HasNothingAtHome E.contents home.now }
-{
-    match home {
-        Some(job) => job.back.is_room_coming(),
-        None => true,
-    }
 }
 
 /// Takes the job back where the committer's thread is done with it, puts what was closed ahead last in its queue, and tells the front what came of it.

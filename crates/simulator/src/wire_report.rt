@@ -105,5 +105,25 @@ fn write_message<W: Write>(out: &mut W, message: &Message) -> io::Result<()> {
             let position = ack.position();
             write!(out, "epoch {epoch}, position {position}, ")
         }
+        Message::CopyWanted(wanted) => {
+            let epoch = wanted.epoch;
+            write!(out, "epoch {epoch}, wants a copy, ")
+        }
+        Message::CopyPart(part) => {
+            let epoch = part.epoch;
+            let position = part.position;
+            let number = part.number;
+            let puts = part.puts.len();
+            write!(
+                out,
+                "epoch {epoch}, position {position}, part {number}, puts {puts}, "
+            )
+        }
+        Message::CopyEnd(end) => {
+            let epoch = end.epoch;
+            let position = end.position;
+            let parts = end.parts;
+            write!(out, "epoch {epoch}, position {position}, parts {parts}, ")
+        }
     }
 }

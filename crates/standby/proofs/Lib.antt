@@ -18,3 +18,14 @@ pub mod ClearingLemmas
 pub mod MovingLemmas
 pub mod IdleLemmas
 pub mod JoiningLemmas
+pub mod CopiesLemmas
+pub mod PutsAlone
+pub mod GatheringLemmas
+pub mod CopyOutcomes
+pub mod DroppedHalf
+pub mod ClearOutcomes
+pub mod CopyRests
+pub mod EndOutcomes
+pub mod PartOutcomes
+pub mod StepLemmas
+pub mod OpenedNewcomer

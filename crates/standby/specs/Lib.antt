@@ -2,3 +2,8 @@ pub mod Following
 pub mod Taking
 pub mod Moving
 pub mod Spare
+pub mod Copied
+pub mod Copies
+pub mod Gathering
+pub mod Beginning
+pub mod Newcomers

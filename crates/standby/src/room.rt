@@ -103,6 +103,7 @@ impl<E: Durable, K: Keyspace> Standby<E, K> {
         ensures tidies { Tidies E.device E.contents E.is_faulted K.table self.old result self.new }
         ensures cleared { result ≡ Ok true → HasCleared (E.contents self.old.engine) (E.contents self.new.engine) self.old.heap self.new.heap }
         ensures none_left { result ≡ Ok false → self.new ≡ self.old }
+        ensures copying { E.is_copying self.new.engine ≡ E.is_copying self.old.engine }
         // what comes next has its counters still
         ensures counters { (frame : SomeFrame) → ¬ WouldExhaust (E.contents self.old.engine).current frame → ¬ IsErrOf result Fault
             → ¬ WouldExhaust (E.contents self.new.engine).current frame }

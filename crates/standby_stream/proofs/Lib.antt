@@ -4,3 +4,5 @@ pub mod DeltaLemmas
 pub mod ReadLemmas
 pub mod HeldLines
 pub mod FitLemmas
+pub mod CopyLemmas
+pub mod LeadLemmas

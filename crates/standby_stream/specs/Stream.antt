@@ -1,10 +1,14 @@
 -- What a link to a standby holds, and what its calls do to it (this project's profile).
-use Rattle.std.specs.Prelude.{◌≡◌, ℕ, ◌+◌, ◌-◌, ◌<◌, ◌≤◌, max, Bool, true, false, ◌||◌, ◌&&◌, nat_eq, nat_lt, nat_le, if◌then◌else◌, List, [], ◌∷◌, ◌++◌, length, Option, Some, None}
+use Rattle.std.specs.Prelude.{◌≡◌, ℕ, ◌+◌, ◌-◌, ◌<◌, ◌≤◌, max, Bool, true, false, ◌||◌, ◌&&◌, nat_eq, nat_lt, if◌then◌else◌, List, [], ◌∷◌, ◌++◌, length, Option, Some, None}
 use Rattle.model.specs.declared.group.Group.{Group}
 use Rattle.model.specs.Group.{changes_of_group, last_position}
 use Rattle.pipes.specs.declared.limits.TheConstants.{KEPT_GROUPS}
 use Rattle.frames.specs.declared.ack.Ack.{Ack}
 use Rattle.frames.specs.declared.frame.Frame.{Frame}
+use Rattle.standby_stream.specs.declared.copying.Copying.{Copying}
+use Rattle.standby_stream.specs.declared.copying.Copying.TheVariants.{Follows, Awaited, Sending}
+use Rattle.standby_stream.specs.Copying.{IsAside, ended_at, goes_aside, up_to}
+pub use Rattle.standby_stream.specs.Copying.{above}
 
 -- what a link holds
 pub record Stream : Type 0 where
@@ -20,15 +24,20 @@ pub record Stream : Type 0 where
   pub pending : Option Group
   -- the frame that is sent before all kept ones, to a standby that is behind the position at which the primary was opened
   pub delta : Option Frame
+  -- whether a standby follows, or a newcomer waits for a copy
+  pub copying : Copying
+  -- the frames whose changes a copy has or will have, oldest first, none of them acknowledged: they come before all kept ones
+  pub aside : List Frame
 
 abbrev pub new_stream : ℕ → Stream
-new_stream epoch = record { epoch = epoch; kept = []; next = 0; known = 0; pending = None; delta = None }
+new_stream epoch = record { epoch = epoch; kept = []; next = 0; known = 0; pending = None; delta = None; copying = Follows; aside = [] }
 
 -- what is true of every link: it keeps no more than it may, it has the room for that, and what is sent next is kept or comes
-pub record IsStream (kept : List Frame) (next capacity : ℕ) : Type 0 where
+pub record IsStream (copying : Copying) (kept : List Frame) (next : ℕ) (aside : List Frame) (capacity : ℕ) : Type 0 where
   pub few : length kept ≤ KEPT_GROUPS
   pub next_within : next ≤ length kept
   pub has_room : KEPT_GROUPS ≤ capacity
+  pub is_aside : IsAside copying kept next aside
 
 -- the frame of a group: its changes, with the positions before and after them
 pub record IsFrameOf (epoch : ℕ) (group : Group) (frame : Frame) : Type 0 where
@@ -42,8 +51,9 @@ pub record IsFull (stream : Stream) : Type 0 where
   pub all_sent : stream.next ≡ length stream.kept
   pub many : KEPT_GROUPS ≤ length stream.kept
 
--- all kept frames were sent, and one more may be kept
+-- a standby follows, all kept frames were sent, and one more may be kept
 pub record IsDue (stream : Stream) : Type 0 where
+  pub follows : stream.copying ≡ Follows
   pub all_sent : stream.next ≡ length stream.kept
   pub room : length stream.kept < KEPT_GROUPS
 
@@ -55,10 +65,15 @@ TakesNext gives None before found after = gives before found after
 abbrev pub with_frame : Frame → Stream → Stream
 with_frame frame stream = record stream { kept = stream.kept ++ frame ∷ []; pending = None }
 
--- the frame of the group that was found is kept last
+-- the frame is kept last, or is the last aside, where its changes are of a copy
+abbrev pub placed : Frame → Stream → Stream
+placed frame stream =
+    if goes_aside stream.copying frame.after then record stream { pending = None; aside = stream.aside ++ frame ∷ [] } else with_frame frame stream
+
+-- the frame of the group that was found is kept last, or is the last aside
 abbrev pub Adds : Stream → Option Group → Bool → Stream → Type 0
 Adds old None did new = (did ≡ false) × (new ≡ old)
-Adds old (Some group) did new = (did ≡ true) × ((frame : Frame) × IsFrameOf old.epoch group frame × (new ≡ with_frame frame old))
+Adds old (Some group) did new = (did ≡ true) × ((frame : Frame) × IsFrameOf old.epoch group frame × (new ≡ placed frame old))
 
 -- the frame of the group that was found is kept last, and it is the one that is sent
 abbrev pub Frames : Stream → Option Group → Option ℕ → Stream → Type 0
@@ -67,11 +82,6 @@ Frames old (Some group) given new =
     (given ≡ Some old.next)
     × ((frame : Frame) × IsFrameOf old.epoch group frame
     × (new ≡ record old { kept = old.kept ++ frame ∷ []; next = old.next + 1; pending = None }))
-
--- the frames from the first on that ends above the position
-abbrev pub above : ℕ → List Frame → List Frame
-above position [] = []
-above position (frame ∷ frames) = if nat_le frame.after position then above position frames else frame ∷ frames
 
 -- a primary of this epoch counts the acknowledgement as its own: it is of its epoch, or of a lower one and of position 0, at which nothing was acknowledged yet
 abbrev pub counts : ℕ → Ack → Bool
@@ -83,4 +93,29 @@ acknowledged position stream = record stream {
   kept = above position stream.kept;
   next = stream.next - (length stream.kept - length (above position stream.kept));
   known = max stream.known position;
+  copying = ended_at position stream.copying;
+  aside = above position stream.aside;
 }
+
+-- the link once a copy ended: a standby follows, nothing is aside, and what is kept is sent from the first on
+pub record EndsCopy (stream : Stream) : Type 0 where
+  pub follows : stream.copying ≡ Follows
+  pub none_aside : stream.aside ≡ []
+  pub from_first : stream.next ≡ 0
+
+-- the link opens to a standby: this delta, where one is due, and after it all kept frames are to be sent
+abbrev pub opened : Option Frame → Stream → Stream
+opened delta stream = record stream { next = 0; delta = delta; copying = Follows }
+
+-- the link awaits a copy: what it keeps goes aside, behind what is so already
+abbrev pub awaiting : Stream → Stream
+awaiting stream = record stream { kept = []; next = 0; delta = None; copying = Awaited; aside = stream.aside ++ stream.kept }
+
+-- the copy is of this position: what ends above it is kept again
+abbrev pub pinned_at : ℕ → Stream → Stream
+pinned_at position stream = record stream { kept = above position stream.aside; copying = Sending position; aside = up_to position stream.aside }
+
+-- a copy is awaited, and no more frames are aside that end above this position than a link may keep
+pub record MayPin (position : ℕ) (stream : Stream) : Type 0 where
+  pub is_awaited : stream.copying ≡ Awaited
+  pub few : length (above position stream.aside) ≤ KEPT_GROUPS

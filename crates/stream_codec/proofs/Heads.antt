@@ -6,7 +6,7 @@ use Rattle.frames.specs.declared.ack.Ack.{Ack}
 use Rattle.kv_types.specs.declared.stop.Stop.TheVariants.{Short, Broken}
 use Rattle.kv_types.specs.Reader.{◌>>=◌}
 use Rattle.kv_types.proofs.ReaderLemmas.{ok_parts}
-use Rattle.stream_codec.specs.declared.message.TheConstants.{MAX_BODY_BYTES}
+use Rattle.stream_codec.specs.declared.message.TheConstants.{LEAST_PUT_BYTES, MAX_BODY_BYTES, MAX_PART_BYTES}
 use Rattle.stream_codec.specs.declared.head.HeadKind.{HeadKind}
 use Rattle.stream_codec.specs.declared.head.HeadKind.TheVariants as head_kind
 use Rattle.stream_codec.specs.declared.head.Head.{Head}
@@ -35,6 +35,9 @@ long_reads least most some fits =
 abbrev pub numbers_text : Head → List ℕ
 numbers_text (head.Group epoch before after size) = long epoch ++ (long before ++ (long after ++ long size))
 numbers_text (head.Ack ack) = long ack.epoch ++ long ack.position
+numbers_text (head.Wanted epoch) = long epoch
+numbers_text (head.Part epoch position number size) = long epoch ++ (long position ++ (long number ++ long size))
+numbers_text (head.End epoch position parts) = long epoch ++ (long position ++ long parts)
 
 pub record IsGroupHead (epoch before after size : ℕ) : Type 0 where
   pub epoch_fits : epoch < 2 ^ 64
@@ -42,13 +45,26 @@ pub record IsGroupHead (epoch before after size : ℕ) : Type 0 where
   pub after_fits : after < 2 ^ 64
   pub body : size ≤ MAX_BODY_BYTES
 
+pub record IsPartHead (epoch position number size : ℕ) : Type 0 where
+  pub epoch_fits : epoch < 2 ^ 64
+  pub position_fits : position < 2 ^ 64
+  pub number_fits : number < 2 ^ 64
+  pub some : LEAST_PUT_BYTES ≤ size
+  pub body : size ≤ MAX_PART_BYTES
+
 abbrev pub IsHead : Head → Type 0
 IsHead (head.Group epoch before after size) = IsGroupHead epoch before after size
 IsHead (head.Ack ack) = (ack.epoch < 2 ^ 64) × (ack.position < 2 ^ 64)
+IsHead (head.Wanted epoch) = epoch < 2 ^ 64
+IsHead (head.Part epoch position number size) = IsPartHead epoch position number size
+IsHead (head.End epoch position parts) = (epoch < 2 ^ 64) × (position < 2 ^ 64) × (parts < 2 ^ 64)
 
 abbrev pub kind_of_head : Head → HeadKind
 kind_of_head (head.Group epoch before after size) = head_kind.Group
 kind_of_head (head.Ack ack) = head_kind.Ack
+kind_of_head (head.Wanted epoch) = head_kind.Wanted
+kind_of_head (head.Part epoch position number size) = head_kind.Part
+kind_of_head (head.End epoch position parts) = head_kind.End
 
 pub record AreNumbers (k : HeadKind) (h : Head) (text : List ℕ) : Type 0 where
   pub kind_is : kind_of_head h ≡ k
@@ -89,16 +105,68 @@ before_reads epoch =
     Reads-then (long_at 0 (2 ^ 64 - 2)) (after_at epoch) (IsLong 0 (2 ^ 64 - 2)) (After epoch)
     (long_reads 0 (2 ^ 64 - 2) (omega arith) (omega arith)) (λ before text i. after_reads epoch before i.most_is)
 
+abbrev PartSize : ℕ → ℕ → ℕ → Head → List ℕ → Type 0
+PartSize epoch position number = Last (IsLong LEAST_PUT_BYTES MAX_PART_BYTES) (λ size. head.Part epoch position number size)
+
+abbrev PartNumber : ℕ → ℕ → Head → List ℕ → Type 0
+PartNumber epoch position = Then (IsLong 0 (2 ^ 64 - 1)) (PartSize epoch position)
+
+abbrev PartPosition : ℕ → Head → List ℕ → Type 0
+PartPosition epoch = Then (IsLong 0 (2 ^ 64 - 1)) (PartNumber epoch)
+
+abbrev Parts : ℕ → ℕ → Head → List ℕ → Type 0
+Parts epoch position = Last (IsLong 0 (2 ^ 64 - 1)) (λ parts. head.End epoch position parts)
+
+abbrev EndPosition : ℕ → Head → List ℕ → Type 0
+EndPosition epoch = Then (IsLong 0 (2 ^ 64 - 1)) (Parts epoch)
+
+abbrev pub part_size_at : ℕ → ℕ → ℕ → List ℕ → Outcome Head
+part_size_at epoch position number bytes = long_at LEAST_PUT_BYTES MAX_PART_BYTES bytes >>= λ size. Ok (head.Part epoch position number size.0, size.1)
+
+abbrev pub part_number_at : ℕ → ℕ → List ℕ → Outcome Head
+part_number_at epoch position bytes = long_at 0 (2 ^ 64 - 1) bytes >>= λ number. part_size_at epoch position number.0 number.1
+
+abbrev pub part_position_at : ℕ → List ℕ → Outcome Head
+part_position_at epoch bytes = long_at 0 (2 ^ 64 - 1) bytes >>= λ position. part_number_at epoch position.0 position.1
+
+abbrev pub parts_at : ℕ → ℕ → List ℕ → Outcome Head
+parts_at epoch position bytes = long_at 0 (2 ^ 64 - 1) bytes >>= λ parts. Ok (head.End epoch position parts.0, parts.1)
+
+abbrev pub end_position_at : ℕ → List ℕ → Outcome Head
+end_position_at epoch bytes = long_at 0 (2 ^ 64 - 1) bytes >>= λ position. parts_at epoch position.0 position.1
+
+any_reads : Reads (long_at 0 (2 ^ 64 - 1)) (IsLong 0 (2 ^ 64 - 1))
+any_reads = long_reads 0 (2 ^ 64 - 1) (omega arith) (omega arith)
+
+part_number_reads : (epoch position : ℕ) → Reads (part_number_at epoch position) (PartNumber epoch position)
+part_number_reads epoch position =
+    Reads-then (long_at 0 (2 ^ 64 - 1)) (part_size_at epoch position) (IsLong 0 (2 ^ 64 - 1)) (PartSize epoch position) any_reads
+    (λ number text i. Reads-last (long_at LEAST_PUT_BYTES MAX_PART_BYTES) (IsLong LEAST_PUT_BYTES MAX_PART_BYTES) (λ size. head.Part epoch position number size) (long_reads LEAST_PUT_BYTES MAX_PART_BYTES (omega arith) (omega arith)))
+
+part_position_reads : (epoch : ℕ) → Reads (part_position_at epoch) (PartPosition epoch)
+part_position_reads epoch = Reads-then (long_at 0 (2 ^ 64 - 1)) (part_number_at epoch) (IsLong 0 (2 ^ 64 - 1)) (PartNumber epoch) any_reads (λ position text i. part_number_reads epoch position)
+
+end_position_reads : (epoch : ℕ) → Reads (end_position_at epoch) (EndPosition epoch)
+end_position_reads epoch =
+    Reads-then (long_at 0 (2 ^ 64 - 1)) (parts_at epoch) (IsLong 0 (2 ^ 64 - 1)) (Parts epoch) any_reads
+    (λ position text i. Reads-last (long_at 0 (2 ^ 64 - 1)) (IsLong 0 (2 ^ 64 - 1)) (λ parts. head.End epoch position parts) any_reads)
+
 -- the texts that make them up
 abbrev Shape : HeadKind → Head → List ℕ → Type 0
 Shape head_kind.Group = Then (IsLong 0 (2 ^ 64 - 1)) Before
 Shape head_kind.Ack = Then (IsLong 0 (2 ^ 64 - 1)) Position
+Shape head_kind.Wanted = Last (IsLong 0 (2 ^ 64 - 1)) (λ epoch. head.Wanted epoch)
+Shape head_kind.Part = Then (IsLong 0 (2 ^ 64 - 1)) PartPosition
+Shape head_kind.End = Then (IsLong 0 (2 ^ 64 - 1)) EndPosition
 
 shape_reads : (k : HeadKind) → Reads (head_of k) (Shape k)
 shape_reads head_kind.Group = Reads-then (long_at 0 (2 ^ 64 - 1)) before_at (IsLong 0 (2 ^ 64 - 1)) Before (long_reads 0 (2 ^ 64 - 1) (omega arith) (omega arith)) (λ epoch text i. before_reads epoch)
 shape_reads head_kind.Ack =
     Reads-then (long_at 0 (2 ^ 64 - 1)) position_at (IsLong 0 (2 ^ 64 - 1)) Position (long_reads 0 (2 ^ 64 - 1) (omega arith) (omega arith))
     (λ epoch text i. Reads-last (long_at 0 (2 ^ 64 - 1)) (IsLong 0 (2 ^ 64 - 1)) (λ position. head.Ack (record { epoch = epoch; position = position })) (long_reads 0 (2 ^ 64 - 1) (omega arith) (omega arith)))
+shape_reads head_kind.Wanted = Reads-last (long_at 0 (2 ^ 64 - 1)) (IsLong 0 (2 ^ 64 - 1)) (λ epoch. head.Wanted epoch) any_reads
+shape_reads head_kind.Part = Reads-then (long_at 0 (2 ^ 64 - 1)) part_position_at (IsLong 0 (2 ^ 64 - 1)) PartPosition any_reads (λ epoch text i. part_position_reads epoch)
+shape_reads head_kind.End = Reads-then (long_at 0 (2 ^ 64 - 1)) end_position_at (IsLong 0 (2 ^ 64 - 1)) EndPosition any_reads (λ epoch text i. end_position_reads epoch)
 
 numbers_to : (k : HeadKind) (h : Head) (text : List ℕ) → Shape k h text → AreNumbers k h text
 numbers_to head_kind.Group h text t =
@@ -110,6 +178,18 @@ numbers_to head_kind.Group h text t =
 numbers_to head_kind.Ack h text t =
     let p = t.after in
     rw p.after.1 (record { kind_is = refl; within = (omega (arith, t.before.most_is), omega (arith, p.before.most_is)); text_is = cc (append-nil p.first) })
+numbers_to head_kind.Wanted h text t = rw t.after.1 (record { kind_is = refl; within = omega (arith, t.before.most_is); text_is = cc (append-nil t.first) })
+numbers_to head_kind.Part h text t =
+    let p = t.after in
+    let n = p.after in
+    let s = n.after in
+    let within : IsPartHead t.x p.x n.x s.x =
+    record { epoch_fits = omega (arith, t.before.most_is); position_fits = omega (arith, p.before.most_is); number_fits = omega (arith, n.before.most_is); some = s.before.least_is; body = s.before.most_is } in
+    rw s.after.1 (record { kind_is = refl; within = within; text_is = cc (append-nil s.first) })
+numbers_to head_kind.End h text t =
+    let p = t.after in
+    let n = p.after in
+    rw n.after.1 (record { kind_is = refl; within = (omega (arith, t.before.most_is), omega (arith, p.before.most_is), omega (arith, n.before.most_is)); text_is = cc (append-nil n.first) })
 
 -- a number is its bytes
 number : (least most n : ℕ) → least ≤ n → n ≤ most → IsLong least most n (long n)
@@ -124,6 +204,16 @@ shape_of (head.Group epoch before after size) w =
 shape_of (head.Ack ack) w =
     pair _ _ _ (number 0 (2 ^ 64 - 1) ack.epoch (omega arith) (omega (arith, w.0)))
     (last (λ n. head.Ack (record { epoch = ack.epoch; position = n })) (number 0 (2 ^ 64 - 1) ack.position (omega arith) (omega (arith, w.1))))
+shape_of (head.Wanted epoch) w = last (λ n. head.Wanted n) (number 0 (2 ^ 64 - 1) epoch (omega arith) (omega (arith, w)))
+shape_of (head.Part epoch position part size) w =
+    pair _ _ _ (number 0 (2 ^ 64 - 1) epoch (omega arith) (omega (arith, w.epoch_fits)))
+    (pair _ _ _ (number 0 (2 ^ 64 - 1) position (omega arith) (omega (arith, w.position_fits)))
+    (pair _ _ _ (number 0 (2 ^ 64 - 1) part (omega arith) (omega (arith, w.number_fits)))
+    (last (λ n. head.Part epoch position part n) (number LEAST_PUT_BYTES MAX_PART_BYTES size w.some w.body))))
+shape_of (head.End epoch position parts) w =
+    pair _ _ _ (number 0 (2 ^ 64 - 1) epoch (omega arith) (omega (arith, w.0)))
+    (pair _ _ _ (number 0 (2 ^ 64 - 1) position (omega arith) (omega (arith, w.1)))
+    (last (λ n. head.End epoch position n) (number 0 (2 ^ 64 - 1) parts (omega arith) (omega (arith, w.2)))))
 
 numbers_from : (k : HeadKind) (h : Head) (text : List ℕ) → AreNumbers k h text → Shape k h text
 numbers_from k h text i = rw (← i.kind_is, i.text_is) (shape_of h i.within)
@@ -142,10 +232,16 @@ ack_read ack bytes numbers rest text epoch position is =
 abbrev pub byte_of : HeadKind → ℕ
 byte_of head_kind.Group = 1
 byte_of head_kind.Ack = 2
+byte_of head_kind.Wanted = 3
+byte_of head_kind.Part = 4
+byte_of head_kind.End = 5
 
 head_kind_of-byte : (k : HeadKind) → head_kind_of (byte_of k) ≡ Some k
 head_kind_of-byte head_kind.Group = refl
 head_kind_of-byte head_kind.Ack = refl
+head_kind_of-byte head_kind.Wanted = refl
+head_kind_of-byte head_kind.Part = refl
+head_kind_of-byte head_kind.End = refl
 
 byte-head_kind_of : (byte : ℕ) (k : HeadKind) → head_kind_of byte ≡ Some k → byte ≡ byte_of k
 byte-head_kind_of byte k e = grind (arith, nat_tests)

@@ -207,6 +207,18 @@ number_unbroken (place ∷ places) most sum a wide (byte ∷ bytes) are e =
     number_unbroken places most (sum + byte * place) a.1 (omega (arith, wide, low, a.0)) bytes (λ i. are (suc i))
     (sym (cond_true (fits place places 0 most sum byte) (number_from places 0 most (sum + byte * place) bytes) (Err (Broken tt)) t) ∙ e)
 
+-- a number above the most
+pub number_above : (places : List ℕ) (most sum n : ℕ) (text more : List ℕ) → AreDigits places n text → sum ≤ most → most < sum + n → number_from places 0 most sum (text ++ more) ≡ Err (Broken tt)
+number_above [] most sum n text more d low high = absurd (omega (arith, low, high, d.0))
+number_above (place ∷ places) most sum n [] more d low high = absurd d
+number_above (place ∷ places) most sum n (byte ∷ text) more d low high =
+    elim (true_or_false (fits place places 0 most sum byte)) [
+      | inl t ↦ let u = in_range byte (sum + byte * place) (sum + byte * place + (place - 1)) 0 most t in
+          cond_true (fits place places 0 most sum byte) (number_from places 0 most (sum + byte * place) (text ++ more)) (Err (Broken tt)) t
+          ∙ number_above places most (sum + byte * place) d.1 text more d.3 u.1 (omega (arith, high, d.2))
+      | inr f ↦ cond_false (fits place places 0 most sum byte) (number_from places 0 most (sum + byte * place) (text ++ more)) (Err (Broken tt)) f
+    ]
+
 -- a number within the bounds
 pub record IsNumber (places : List ℕ) (least most n : ℕ) (text : List ℕ) : Type 0 where
   pub least_is : least ≤ n

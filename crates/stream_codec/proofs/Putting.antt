@@ -1,7 +1,10 @@
 -- Bytes that are put one after the other.
-use Rattle.std.proofs.Common.{◌≡◌, ℕ, ◌+◌, ◌^◌, ◌<◌, ◌≤◌, List, ◌++◌, length, Option, None, Some, Result, Ok, Err, OnOk, ap, sym, ◌∙◌, arith}
+use Rattle.std.proofs.Common.{◌≡◌, ℕ, ◌+◌, ◌^◌, ◌<◌, ◌≤◌, List, [], ◌∷◌, ◌++◌, length, map, Option, None, Some, Result, Ok, Err, OnOk, ap, sym, ◌∙◌, arith}
 use Rattle.std.proofs.lemmas.List.{append_assoc, length-append}
+use Rattle.std.specs.List.{AllByRecursion}
 use Rattle.std.specs.Option.{SomeIff}
+use Rattle.kv_types.specs.declared.record_id.RecordId.{RecordId}
+use Rattle.stream_codec.specs.Message.{IsPut, put_of}
 use Rattle.stream_codec.specs.Puts.{Puts}
 
 -- bytes that were put, and then a call that puts more
@@ -17,3 +20,8 @@ some_size (Some x) n size h e = let same : x ≡ size = cc in sym same ∙ h.1
 pub OnOk-weaken : {T E P Q : Type 0} (result : Result T E) → (P → Q) → OnOk result P → OnOk result Q
 OnOk-weaken (Ok x) into h = into h
 OnOk-weaken (Err e) into h = tt
+
+-- records with their values are puts
+pub are_puts : (puts : List (RecordId × List ℕ)) → AllByRecursion IsPut (map put_of puts)
+are_puts [] = tt
+are_puts (put ∷ puts) = (tt, are_puts puts)

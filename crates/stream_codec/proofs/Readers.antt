@@ -1,11 +1,11 @@
 -- Readers of bytes of which more may come, and the texts that each of them reads.
-use Rattle.std.proofs.Common.{◌≡◌, ℕ, List, [], ◌∷◌, ◌++◌, Result, Ok, Err, inl, inr, refl, sym, ap, ◌∙◌}
+use Rattle.std.proofs.Common.{◌≡◌, ◌⊎◌, ℕ, List, [], ◌∷◌, ◌++◌, Result, Ok, Err, inl, inr, refl, sym, ap, ◌∙◌}
 use Rattle.std.proofs.lemmas.List.{append_assoc, append-nil}
 use Rattle.kv_types.specs.declared.stop.Stop.{Stop}
 use Rattle.kv_types.specs.declared.stop.Stop.TheVariants.{Short, Broken}
 use Rattle.kv_types.specs.Reader.{◌>>=◌}
 use Rattle.kv_types.proofs.ReaderLemmas.{bind_ok, bind_err, ok_parts}
-use Rattle.stream_codec.specs.Bytes.{Outcome}
+use Rattle.stream_codec.specs.Bytes.{Outcome, or_else}
 
 -- ---- results
 
@@ -136,6 +136,51 @@ Last S made = Then S (λ x. Gives (made x))
 
 pub Reads-last : {A B : Type 0} (r : List ℕ → Outcome A) (S : A → List ℕ → Type 0) (made : A → B) → Reads r S → Reads (λ bytes. r bytes >>= λ x. Ok (made x.0, x.1)) (Last S made)
 Reads-last r S made p = Reads-then r (λ x rest. Ok (made x, rest)) S (λ x. Gives (made x)) p (λ x text i. Reads-done (made x))
+
+-- ---- one reader, or another where the bytes break the first
+
+either_ok : {A : Type 0} (x y : Outcome A) (read : A × List ℕ) → or_else x y ≡ Ok read → (x ≡ Ok read) ⊎ ((x ≡ Err (Broken tt)) × (y ≡ Ok read))
+either_ok (Ok other) y read e = inl e
+either_ok (Err Short) y read e = absurd cc
+either_ok (Err (Broken fault)) y read e = inr (refl, e)
+
+either_short : {A : Type 0} (x y : Outcome A) → or_else x y ≡ Err Short → (x ≡ Err Short) ⊎ ((x ≡ Err (Broken tt)) × (y ≡ Err Short))
+either_short (Ok other) y e = absurd cc
+either_short (Err Short) y e = inl refl
+either_short (Err (Broken fault)) y e = inr (refl, e)
+
+either_broken : {A : Type 0} (x y : Outcome A) → or_else x y ≡ Err (Broken tt) → (x ≡ Err (Broken tt)) × (y ≡ Err (Broken tt))
+either_broken (Ok other) y e = absurd cc
+either_broken (Err Short) y e = absurd cc
+either_broken (Err (Broken fault)) y e = (refl, e)
+
+abbrev pub Either : {A : Type 0} → (A → List ℕ → Type 0) → (A → List ℕ → Type 0) → A → List ℕ → Type 0
+Either S T x text = S x text ⊎ T x text
+
+-- the texts of both, if those of the second break the first
+pub Reads-either : {A : Type 0} (r s : List ℕ → Outcome A) (S T : A → List ℕ → Type 0) → Reads r S → Reads s T → ((x : A) (text more : List ℕ) → T x text → r (text ++ more) ≡ Err (Broken tt)) → Reads (λ bytes. or_else (r bytes) (s bytes)) (Either S T)
+Reads-either r s S T p q breaks =
+    record {
+      begins = λ e. p.begins (either_broken (r []) (s []) e).0;
+      again = λ x text more t.
+          elim t [
+            | inl a ↦ ap (λ z. or_else z (s (text ++ more))) (p.again x text more a)
+            | inr b ↦ ap (λ z. or_else z (s (text ++ more))) (breaks x text more b) ∙ q.again x text more b
+          ];
+      takes = λ bytes x rest e.
+          elim (either_ok (r bytes) (s bytes) (x, rest) e) [
+            | inl a ↦ let t = p.takes bytes x rest a in (t.0, inl t.1, t.2)
+            | inr b ↦ let t = q.takes bytes x rest b.1 in (t.0, inr t.1, t.2)
+          ];
+      short = λ bytes e.
+          elim (either_short (r bytes) (s bytes) e) [
+            | inl a ↦ let t = p.short bytes a in (t.0, t.1, inl t.2)
+            | inr b ↦ let t = q.short bytes b.1 in (t.0, t.1, inr t.2)
+          ];
+      stays = λ bytes more e.
+          let b = either_broken (r bytes) (s bytes) e in
+          ap (λ z. or_else z (s (bytes ++ more))) (p.stays bytes more b.0) ∙ q.stays bytes more b.1;
+    }
 
 -- ---- two readers of the same texts are one
 

@@ -1,5 +1,5 @@
 -- Changes that are skipped, and frames that are looked at in steps.
-use Rattle.std.proofs.Common.{◌≡◌, ℕ, zero, suc, ◌+◌, ◌-◌, ◌<◌, ◌≤◌, true, false, List, [], ◌∷◌, ◌++◌, length, take, drop, Option, None, Some, Ok, Err, refl, sym, ap, subst, ◌∙◌, arith}
+use Rattle.std.proofs.Common.{◌≡◌, ℕ, zero, suc, ◌+◌, ◌-◌, ◌<◌, ◌≤◌, true, false, List, [], ◌∷◌, ◌++◌, length, take, drop, map, Option, None, Some, Ok, Err, refl, sym, ap, subst, ◌∙◌, arith}
 use Rattle.std.proofs.lemmas.Bool.Decides.{nat_tests}
 use Rattle.std.proofs.lemmas.List.{take-append-drop, drop-append-le, drop_at, append_assoc, append-nil, length-append}
 use Rattle.kv_types.specs.declared.change.Change.{Change}
@@ -9,9 +9,11 @@ use Rattle.kv_types.specs.declared.stop.Stop.{Stop}
 use Rattle.kv_types.specs.declared.stop.Stop.TheVariants.{Short, Broken}
 use Rattle.kv_types.specs.Reader.{◌>>=◌, skipped}
 use Rattle.kv_types.proofs.ReaderLemmas.{bind_ok, ok_parts}
+use Rattle.stream_codec.specs.declared.change.Body.{Body}
+use Rattle.stream_codec.specs.declared.change.Body.TheVariants as bodies
 use Rattle.stream_codec.specs.declared.head.Head.TheVariants as head
 use Rattle.frames.specs.declared.ack.Ack.{Ack}
-use Rattle.stream_codec.specs.Message.{Sent, Changes, Acknowledged, IsChange, sent_of}
+use Rattle.stream_codec.specs.Message.{Sent, Changes, Acknowledged, WantsCopy, CopiesPart, EndsCopy, IsChange, IsPut, put_of, put_in, sent_of}
 use Rattle.stream_codec.specs.Bytes.{Outcome, IsBytes}
 use Rattle.stream_codec.specs.Reading.{change_at, changes_at, head_at, body_at, message_at}
 use Rattle.std.specs.Prelude.{option_map}
@@ -27,7 +29,9 @@ use Rattle.stream_codec.proofs.Readers.{grows}
 use Rattle.stream_codec.proofs.Numbers.{IsBytes-append}
 use Rattle.stream_codec.proofs.Streams.{behind, stream_at-read, stream_at-short}
 use Rattle.stream_codec.proofs.Bodies.{changes_at-step, changes_at-stop, changes_at-none}
-use Rattle.stream_codec.proofs.Changes.{IsChangeWithin, change_reads}
+use Rattle.kv_types.specs.declared.change.Change.TheVariants.{Put, Drop, DropKey, Clear}
+use Rattle.kv_types.specs.declared.record_id.RecordId.{RecordId}
+use Rattle.stream_codec.proofs.Changes.{IsChangeWithin, change_reads, change_fits}
 
 -- ---- what is skipped
 
@@ -57,32 +61,55 @@ IsEnd-drop a b p =
 -- ---- one change after the other
 
 -- how many bytes the change at the front has
-pub taken_size : (left : ℕ) (rest : List ℕ) (c : Change) (after : List ℕ) → 0 < left → change_at left rest ≡ Ok (c, after) → (length rest - length after ≡ length (change_text c)) × (length (change_text c) ≤ left) × (0 < length (change_text c)) × IsChange c × IsEnd rest after
-taken_size left rest c after h e =
-    let t = (change_reads left (omega (arith, h))).takes rest c after e in
+pub taken_size : (b : Body) (left : ℕ) (rest : List ℕ) (c : Change) (after : List ℕ) → change_at b left rest ≡ Ok (c, after) → (length rest - length after ≡ length (change_text c)) × (length (change_text c) ≤ left) × (0 < length (change_text c)) × IsChange c × IsEnd rest after
+taken_size b left rest c after e =
+    let t = (change_reads b left (change_fits b left rest c after e)).takes rest c after e in
     let n = ap length t.2 ∙ length-append t.0 after in
     let k = ap length t.1.text_is in
     (omega (arith, n, k), t.1.fits, change_text_nonempty c, t.1.within, (t.0, t.2))
 
-pub passed_size : (left : ℕ) (rest : List ℕ) (c : Change) (after : List ℕ) → 0 < left → change_at left rest ≡ Ok (c, after) → (more : List ℕ) → skipped (changes_at left (rest ++ more)) ≡ skipped (changes_at (left - (length rest - length after)) (after ++ more))
-passed_size left rest c after h e more =
-    let size = (taken_size left rest c after h e).0 in
-    let grown = grows (change_at left) (IsChangeWithin left) (change_reads left (omega (arith, h))) rest more c after e in
-    ap skipped (changes_at-step left (rest ++ more) c (after ++ more) h grown)
-    ∙ skipped_map (changes_at (left - length (change_text c)) (after ++ more)) (λ others. c ∷ others)
-    ∙ ap (λ n. skipped (changes_at (left - n) (after ++ more))) (sym size)
+pub passed_size : (b : Body) (left : ℕ) (rest : List ℕ) (c : Change) (after : List ℕ) → 0 < left → change_at b left rest ≡ Ok (c, after) → (more : List ℕ) → skipped (changes_at b left (rest ++ more)) ≡ skipped (changes_at b (left - (length rest - length after)) (after ++ more))
+passed_size b left rest c after h e more =
+    let size = (taken_size b left rest c after e).0 in
+    let grown = grows (change_at b left) (IsChangeWithin b left) (change_reads b left (change_fits b left rest c after e)) rest more c after e in
+    ap skipped (changes_at-step b left (rest ++ more) c (after ++ more) h grown)
+    ∙ skipped_map (changes_at b (left - length (change_text c)) (after ++ more)) (λ others. c ∷ others)
+    ∙ ap (λ n. skipped (changes_at b (left - n) (after ++ more))) (sym size)
+
+-- of puts it is one
+pub taken_put : (left : ℕ) (rest : List ℕ) (c : Change) (after : List ℕ) → change_at bodies.Puts left rest ≡ Ok (c, after) → IsPut c
+taken_put left rest c after e = ((change_reads bodies.Puts left (change_fits bodies.Puts left rest c after e)).takes rest c after e).1.member
 
 -- the changes read so far and those that are left
 regrouped : (front : List Change) (c : Change) (r : Outcome (List Change)) → with_front front (r >>= λ others. Ok (c ∷ others.0, others.1)) ≡ with_front (front ++ c ∷ []) r
 regrouped front c (Ok others) = ap (λ all. Ok (all, others.1)) (sym (append_assoc front (c ∷ []) others.0))
 regrouped front c (Err stop) = refl
 
-pub with_front_step : (front : List Change) (left : ℕ) (rest : List ℕ) (c : Change) (after : List ℕ) → 0 < left → change_at left rest ≡ Ok (c, after) → with_front front (changes_at left rest) ≡ with_front (front ++ c ∷ []) (changes_at (left - (length rest - length after)) after)
-with_front_step front left rest c after h e =
-    let size = (taken_size left rest c after h e).0 in
-    ap (with_front front) (changes_at-step left rest c after h e)
-    ∙ regrouped front c (changes_at (left - length (change_text c)) after)
-    ∙ ap (λ n. with_front (front ++ c ∷ []) (changes_at (left - n) after)) (sym size)
+pub with_front_step : (b : Body) (front : List Change) (left : ℕ) (rest : List ℕ) (c : Change) (after : List ℕ) → 0 < left → change_at b left rest ≡ Ok (c, after) → with_front front (changes_at b left rest) ≡ with_front (front ++ c ∷ []) (changes_at b (left - (length rest - length after)) after)
+with_front_step b front left rest c after h e =
+    let size = (taken_size b left rest c after e).0 in
+    ap (with_front front) (changes_at-step b left rest c after h e)
+    ∙ regrouped front c (changes_at b (left - length (change_text c)) after)
+    ∙ ap (λ n. with_front (front ++ c ∷ []) (changes_at b (left - n) after)) (sym size)
+
+-- ---- puts that are copied
+
+pub map_one_more : (puts : List (RecordId × List ℕ)) (put : RecordId × List ℕ) → map put_of (puts ++ put ∷ []) ≡ map put_of puts ++ put_of put ∷ []
+map_one_more [] put = refl
+map_one_more (first ∷ puts) put = ap (λ s. put_of first ∷ s) (map_one_more puts put)
+
+-- what was copied is the put
+pub is_copied : (put : RecordId × List ℕ) (c : Change) → IsPut c → option_map put_of (Some put) ≡ put_in c → put_of put ≡ c
+is_copied put (Put id value) is e = cc
+is_copied put (Drop id) is e = absurd is
+is_copied put (DropKey key) is e = absurd is
+is_copied put Clear is e = absurd is
+
+pub not_copied : (c : Change) → IsPut c → option_map put_of None ≡ put_in c → ⊥
+not_copied (Put id value) is e = absurd cc
+not_copied (Drop id) is e = absurd is
+not_copied (DropKey key) is e = absurd is
+not_copied Clear is e = absurd is
 
 -- ---- frames
 
@@ -90,9 +117,21 @@ pub ack_ends : (bytes : List ℕ) (ack : Ack) (rest : List ℕ) → head_at byte
 unfolding message_at
 ack_ends bytes ack rest e = ap (λ r. r >>= λ h. body_at h.0 h.1) e
 
-pub group_read : (bytes : List ℕ) (epoch before after size : ℕ) (rest : List ℕ) → head_at bytes ≡ Ok (head.Group epoch before after size, rest) → message_at bytes ≡ (changes_at size rest >>= λ changes. Ok (Changes epoch before after changes.0, changes.1))
+pub group_read : (bytes : List ℕ) (epoch before after size : ℕ) (rest : List ℕ) → head_at bytes ≡ Ok (head.Group epoch before after size, rest) → message_at bytes ≡ (changes_at bodies.Changes size rest >>= λ changes. Ok (Changes epoch before after changes.0, changes.1))
 unfolding message_at
 group_read bytes epoch before after size rest e = ap (λ r. r >>= λ h. body_at h.0 h.1) e
+
+pub part_read : (bytes : List ℕ) (epoch position number size : ℕ) (rest : List ℕ) → head_at bytes ≡ Ok (head.Part epoch position number size, rest) → message_at bytes ≡ (changes_at bodies.Puts size rest >>= λ puts. Ok (CopiesPart epoch position number puts.0, puts.1))
+unfolding message_at
+part_read bytes epoch position number size rest e = ap (λ r. r >>= λ h. body_at h.0 h.1) e
+
+pub wanted_ends : (bytes : List ℕ) (epoch : ℕ) (rest : List ℕ) → head_at bytes ≡ Ok (head.Wanted epoch, rest) → message_at bytes ≡ Ok (WantsCopy epoch, rest)
+unfolding message_at
+wanted_ends bytes epoch rest e = ap (λ r. r >>= λ h. body_at h.0 h.1) e
+
+pub copy_ends : (bytes : List ℕ) (epoch position parts : ℕ) (rest : List ℕ) → head_at bytes ≡ Ok (head.End epoch position parts, rest) → message_at bytes ≡ Ok (EndsCopy epoch position parts, rest)
+unfolding message_at
+copy_ends bytes epoch position parts rest e = ap (λ r. r >>= λ h. body_at h.0 h.1) e
 
 pub head_stops : (bytes : List ℕ) (stop : Stop Unit) → head_at bytes ≡ Err stop → message_at bytes ≡ Err stop
 unfolding message_at
@@ -108,8 +147,10 @@ pub stopped_after : (a : Next) (x : List ℕ) (b : Next) (y : List ℕ) (stop : 
 stopped_after a x b y stop p e = EndsAlike-now a x b y p ∙ e
 
 ended : (next : Next) (bytes : List ℕ) → is_more next ≡ false → end_from next bytes ≡ Ok bytes
-ended (next.Changes zero) bytes e = ap skipped (changes_at-none bytes)
-ended (next.Changes (suc left)) bytes e = let more : is_more (next.Changes (suc left)) ≡ true = grind (arith, nat_tests) in absurd cc
+ended (next.Changes b zero) bytes e = ap skipped (changes_at-none b bytes)
+ended (next.Changes b (suc left)) bytes e = let more : is_more (next.Changes b (suc left)) ≡ true = grind (arith, nat_tests) in absurd cc
+ended (next.Numbers zero) bytes e = refl
+ended (next.Numbers (suc left)) bytes e = let more : is_more (next.Numbers (suc left)) ≡ true = grind (arith, nat_tests) in absurd cc
 ended _ bytes e = absurd cc
 
 pub whole_after : (a : Next) (x : List ℕ) (b : Next) (y : List ℕ) → EndsAlike a x b y → is_more b ≡ false → end_from a x ≡ Ok y
@@ -173,11 +214,23 @@ at_start bytes = record { within = omega arith; same = λ more. refl; waits = λ
 
 -- ---- frames that are read
 
-pub found_group : (bytes : List ℕ) (epoch before after size : ℕ) (rest : List ℕ) (items : List Change) → head_at bytes ≡ Ok (head.Group epoch before after size, rest) → ((changes : List Change) (r : List ℕ) → changes_at size rest ≡ Ok (changes, r) → items ≡ changes) → (m : Sent) (r : List ℕ) → message_at bytes ≡ Ok (m, r) → Some (Changes epoch before after items) ≡ Some m
+pub found_group : (bytes : List ℕ) (epoch before after size : ℕ) (rest : List ℕ) (items : List Change) → head_at bytes ≡ Ok (head.Group epoch before after size, rest) → ((changes : List Change) (r : List ℕ) → changes_at bodies.Changes size rest ≡ Ok (changes, r) → items ≡ changes) → (m : Sent) (r : List ℕ) → message_at bytes ≡ Ok (m, r) → Some (Changes epoch before after items) ≡ Some m
 found_group bytes epoch before after size rest items e same m r f =
-    let k = bind_ok (λ changes. Ok (Changes epoch before after changes.0, changes.1)) (changes_at size rest) (m, r) (sym (group_read bytes epoch before after size rest e) ∙ f) in
+    let k = bind_ok (λ changes. Ok (Changes epoch before after changes.0, changes.1)) (changes_at bodies.Changes size rest) (m, r) (sym (group_read bytes epoch before after size rest e) ∙ f) in
     let is = ok_parts (Changes epoch before after k.0.0) m k.0.1 r k.2 in
     ap (λ cs. Some (Changes epoch before after cs)) (same k.0.0 k.0.1 k.1) ∙ ap Some is.0
+
+pub found_part : (bytes : List ℕ) (epoch position number size : ℕ) (rest : List ℕ) (items : List Change) → head_at bytes ≡ Ok (head.Part epoch position number size, rest) → ((puts : List Change) (r : List ℕ) → changes_at bodies.Puts size rest ≡ Ok (puts, r) → items ≡ puts) → (m : Sent) (r : List ℕ) → message_at bytes ≡ Ok (m, r) → Some (CopiesPart epoch position number items) ≡ Some m
+found_part bytes epoch position number size rest items e same m r f =
+    let k = bind_ok (λ puts. Ok (CopiesPart epoch position number puts.0, puts.1)) (changes_at bodies.Puts size rest) (m, r) (sym (part_read bytes epoch position number size rest e) ∙ f) in
+    let is = ok_parts (CopiesPart epoch position number k.0.0) m k.0.1 r k.2 in
+    ap (λ ps. Some (CopiesPart epoch position number ps)) (same k.0.0 k.0.1 k.1) ∙ ap Some is.0
+
+pub found_wanted : (bytes : List ℕ) (epoch : ℕ) (rest : List ℕ) → head_at bytes ≡ Ok (head.Wanted epoch, rest) → (m : Sent) (r : List ℕ) → message_at bytes ≡ Ok (m, r) → Some (WantsCopy epoch) ≡ Some m
+found_wanted bytes epoch rest e m r f = ap Some (ok_parts (WantsCopy epoch) m rest r (sym (wanted_ends bytes epoch rest e) ∙ f)).0
+
+pub found_end : (bytes : List ℕ) (epoch position parts : ℕ) (rest : List ℕ) → head_at bytes ≡ Ok (head.End epoch position parts, rest) → (m : Sent) (r : List ℕ) → message_at bytes ≡ Ok (m, r) → Some (EndsCopy epoch position parts) ≡ Some m
+found_end bytes epoch position parts rest e m r f = ap Some (ok_parts (EndsCopy epoch position parts) m rest r (sym (copy_ends bytes epoch position parts rest e) ∙ f)).0
 
 pub found_ack : (bytes : List ℕ) (ack : Ack) (rest : List ℕ) → head_at bytes ≡ Ok (head.Ack ack, rest) → (m : Sent) (r : List ℕ) → message_at bytes ≡ Ok (m, r) → Some (Acknowledged ack.epoch ack.position) ≡ Some m
 found_ack bytes ack rest e m r f = ap Some (ok_parts (Acknowledged ack.epoch ack.position) m rest r (sym (ack_ends bytes ack rest e) ∙ f)).0
@@ -210,13 +263,13 @@ is_some_of (Some message) m e = refl
 
 -- ---- changes that are copied
 
-pub all_read : (a : ℕ) (x : List ℕ) (b : ℕ) (y : List ℕ) (front : List Change) → changes_at a x ≡ with_front front (changes_at b y) → b ≤ 0 → (changes : List Change) (rest : List ℕ) → changes_at a x ≡ Ok (changes, rest) → front ≡ changes
-all_read a x b y front p h changes rest e =
+pub all_read : (k : Body) (a : ℕ) (x : List ℕ) (b : ℕ) (y : List ℕ) (front : List Change) → changes_at k a x ≡ with_front front (changes_at k b y) → b ≤ 0 → (changes : List Change) (rest : List ℕ) → changes_at k a x ≡ Ok (changes, rest) → front ≡ changes
+all_read k a x b y front p h changes rest e =
     let none : b ≡ 0 = omega (arith, h) in
-    let is = p ∙ ap (λ n. with_front front (changes_at n y)) none ∙ ap (with_front front) (changes_at-none y) in
+    let is = p ∙ ap (λ n. with_front front (changes_at k n y)) none ∙ ap (with_front front) (changes_at-none k y) in
     sym (append-nil front) ∙ (ok_parts (front ++ []) changes y rest (sym is ∙ e)).0
 
-pub cut_short : (a : ℕ) (x : List ℕ) (b : ℕ) (y : List ℕ) (front : List Change) (stop : Stop Unit) → changes_at a x ≡ with_front front (changes_at b y) → 0 < b → change_at b y ≡ Err stop → (changes : List Change) (rest : List ℕ) → changes_at a x ≡ Ok (changes, rest) → front ≡ changes
-cut_short a x b y front stop p h e changes rest f =
-    let is = p ∙ ap (with_front front) (changes_at-stop b y stop h e) in
+pub cut_short : (k : Body) (a : ℕ) (x : List ℕ) (b : ℕ) (y : List ℕ) (front : List Change) (stop : Stop Unit) → changes_at k a x ≡ with_front front (changes_at k b y) → 0 < b → change_at k b y ≡ Err stop → (changes : List Change) (rest : List ℕ) → changes_at k a x ≡ Ok (changes, rest) → front ≡ changes
+cut_short k a x b y front stop p h e changes rest f =
+    let is = p ∙ ap (with_front front) (changes_at-stop k b y stop h e) in
     absurd cc

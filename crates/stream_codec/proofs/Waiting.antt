@@ -13,6 +13,8 @@ use Rattle.kv_types.specs.Reader.{◌>>=◌, skipped}
 use Rattle.kv_types.specs.declared.record_id.RecordId.TheVariants.{Str, Field}
 use Rattle.kv_types.specs.declared.change.Change.{Change}
 use Rattle.kv_types.specs.declared.change.Change.TheVariants.{Put, Drop}
+use Rattle.stream_codec.specs.declared.change.Body.{Body}
+use Rattle.stream_codec.specs.declared.change.Body.TheVariants as bodies
 use Rattle.stream_codec.specs.declared.change.Kind.{Kind}
 use Rattle.stream_codec.specs.declared.change.Kind.TheVariants as kind
 use Rattle.stream_codec.specs.declared.head.Head.{Head}
@@ -23,11 +25,11 @@ use Rattle.stream_codec.specs.declared.step.Next.TheVariants as next
 use Rattle.stream_codec.specs.Bytes.{Outcome, IsBytes, eight_places, ArePlaces}
 use Rattle.stream_codec.specs.Reading.{least_size, kind_at, name_at, value_at, change_of, change_at, changes_at, long_at, head_of}
 use Rattle.stream_codec.specs.declared.message.TheConstants.{MAX_BODY_BYTES}
-use Rattle.stream_codec.specs.Stepping.{IsMore, size_end, after_end, before_end, position_end, end_from}
+use Rattle.stream_codec.specs.Stepping.{IsMore, size_end, after_end, before_end, numbers_end, part_size_end, part_number_end, part_position_end, end_from}
 use Rattle.stream_codec.specs.Scanning.{Waits, field_and_value_at}
 use Rattle.stream_codec.proofs.Readers.{Reads, grows}
 use Rattle.stream_codec.proofs.Numbers.{number_grows, IsBytes-end, IsBytes-append, number_waits, number_waits_above, number_unbroken}
-use Rattle.stream_codec.proofs.Names.{IsName, name_reads, IsKind, kind_reads}
+use Rattle.stream_codec.proofs.Names.{IsName, name_reads, IsKind, kind_fits, kind_reads}
 use Rattle.stream_codec.proofs.Bodies.{changes_at-stop}
 
 -- what waits in the first of two readers
@@ -42,47 +44,47 @@ waits_second r S f p bytes x rest missing e w more are h = ap (λ z. z >>= f) (g
 waits_behind : {B : Type 0} (spare : ℕ) (f : List ℕ × List ℕ → Result B (Stop Unit)) (bytes name rest : List ℕ) (missing : ℕ) → name_at spare bytes ≡ Ok (name, rest) → Waits (λ b. f (name, b)) rest missing → Waits (λ b. name_at spare b >>= f) bytes missing
 waits_behind spare f bytes name rest missing e w = waits_second (name_at spare) (IsName spare) f (name_reads spare) bytes name rest missing e w
 
-pub waits_field_and_value : (spare : ℕ) (bytes field rest : List ℕ) (missing : ℕ) → name_at spare bytes ≡ Ok (field, rest) → Waits (value_at (spare - length field)) rest missing → Waits (field_and_value_at spare) bytes missing
-waits_field_and_value spare bytes field rest missing e w = waits_behind spare (λ name. value_at (spare - length name.0) name.1) bytes field rest missing e w
+pub waits_field_and_value : (b : Body) (spare : ℕ) (bytes field rest : List ℕ) (missing : ℕ) → name_at spare bytes ≡ Ok (field, rest) → Waits (value_at b (spare - length field)) rest missing → Waits (field_and_value_at b spare) bytes missing
+waits_field_and_value b spare bytes field rest missing e w = waits_behind spare (λ name. value_at b (spare - length name.0) name.1) bytes field rest missing e w
 
 -- ---- changes
 
 abbrev done : Change → List ℕ → Outcome Change
 done change rest = Ok (change, rest)
 
-pub waits_put_string : (k : Kind) (spare : ℕ) (bytes key rest : List ℕ) (missing : ℕ) → k ≡ kind.PutString → name_at spare bytes ≡ Ok (key, rest) → Waits (value_at (spare - length key)) rest missing → Waits (change_of k spare) bytes missing
-waits_put_string k spare bytes key rest missing is e w more are h =
-    ap (λ z. change_of z spare (bytes ++ more)) is
-    ∙ waits_behind spare (λ name. value_at (spare - length name.0) name.1 >>= λ value. done (Put (Str name.0) value.0) value.1) bytes key rest missing e
-    (waits_first (value_at (spare - length key)) (λ value. done (Put (Str key) value.0) value.1) rest missing w) more are h
+pub waits_put_string : (b : Body) (k : Kind) (spare : ℕ) (bytes key rest : List ℕ) (missing : ℕ) → k ≡ kind.PutString → name_at spare bytes ≡ Ok (key, rest) → Waits (value_at b (spare - length key)) rest missing → Waits (change_of b k spare) bytes missing
+waits_put_string b k spare bytes key rest missing is e w more are h =
+    ap (λ z. change_of b z spare (bytes ++ more)) is
+    ∙ waits_behind spare (λ name. value_at b (spare - length name.0) name.1 >>= λ value. done (Put (Str name.0) value.0) value.1) bytes key rest missing e
+    (waits_first (value_at b (spare - length key)) (λ value. done (Put (Str key) value.0) value.1) rest missing w) more are h
 
-field_or_value : (spare : ℕ) (key : List ℕ) (r : Outcome (List ℕ)) → (r >>= λ field. value_at (spare - length field.0) field.1) ≡ Err Short → (r >>= λ field. value_at (spare - length field.0) field.1 >>= λ value. done (Put (Field key field.0) value.0) value.1) ≡ Err Short
-field_or_value spare key (Ok field) h = ap (λ z. z >>= λ value. done (Put (Field key field.0) value.0) value.1) h
-field_or_value spare key (Err stop) h = cc
+field_or_value : (b : Body) (spare : ℕ) (key : List ℕ) (r : Outcome (List ℕ)) → (r >>= λ field. value_at b (spare - length field.0) field.1) ≡ Err Short → (r >>= λ field. value_at b (spare - length field.0) field.1 >>= λ value. done (Put (Field key field.0) value.0) value.1) ≡ Err Short
+field_or_value b spare key (Ok field) h = ap (λ z. z >>= λ value. done (Put (Field key field.0) value.0) value.1) h
+field_or_value b spare key (Err stop) h = cc
 
-pub waits_put_field : (k : Kind) (spare : ℕ) (bytes key rest : List ℕ) (missing : ℕ) → k ≡ kind.PutField → name_at spare bytes ≡ Ok (key, rest) → Waits (field_and_value_at (spare - length key)) rest missing → Waits (change_of k spare) bytes missing
-waits_put_field k spare bytes key rest missing is e w more are h =
-    ap (λ z. change_of z spare (bytes ++ more)) is
-    ∙ waits_behind spare (λ name. name_at (spare - length name.0) name.1 >>= λ field. value_at (spare - length name.0 - length field.0) field.1 >>= λ value. done (Put (Field name.0 field.0) value.0) value.1) bytes key rest missing e
-    (λ others bytes_are less. field_or_value (spare - length key) key (name_at (spare - length key) (rest ++ others)) (w others bytes_are less)) more are h
+pub waits_put_field : (b : Body) (k : Kind) (spare : ℕ) (bytes key rest : List ℕ) (missing : ℕ) → k ≡ kind.PutField → name_at spare bytes ≡ Ok (key, rest) → Waits (field_and_value_at b (spare - length key)) rest missing → Waits (change_of b k spare) bytes missing
+waits_put_field b k spare bytes key rest missing is e w more are h =
+    ap (λ z. change_of b z spare (bytes ++ more)) is
+    ∙ waits_behind spare (λ name. name_at (spare - length name.0) name.1 >>= λ field. value_at b (spare - length name.0 - length field.0) field.1 >>= λ value. done (Put (Field name.0 field.0) value.0) value.1) bytes key rest missing e
+    (λ others bytes_are less. field_or_value b (spare - length key) key (name_at (spare - length key) (rest ++ others)) (w others bytes_are less)) more are h
 
-pub waits_drop_field : (k : Kind) (spare : ℕ) (bytes key rest : List ℕ) (missing : ℕ) → k ≡ kind.DropField → name_at spare bytes ≡ Ok (key, rest) → Waits (name_at (spare - length key)) rest missing → Waits (change_of k spare) bytes missing
-waits_drop_field k spare bytes key rest missing is e w more are h =
-    ap (λ z. change_of z spare (bytes ++ more)) is
+pub waits_drop_field : (b : Body) (k : Kind) (spare : ℕ) (bytes key rest : List ℕ) (missing : ℕ) → k ≡ kind.DropField → name_at spare bytes ≡ Ok (key, rest) → Waits (name_at (spare - length key)) rest missing → Waits (change_of b k spare) bytes missing
+waits_drop_field b k spare bytes key rest missing is e w more are h =
+    ap (λ z. change_of b z spare (bytes ++ more)) is
     ∙ waits_behind spare (λ name. name_at (spare - length name.0) name.1 >>= λ field. done (Drop (Field name.0 field.0)) field.1) bytes key rest missing e
     (waits_first (name_at (spare - length key)) (λ field. done (Drop (Field key field.0)) field.1) rest missing w) more are h
 
-pub waits_change : (left : ℕ) → 0 < left → (bytes : List ℕ) (k : Kind) (rest : List ℕ) (least missing : ℕ) → least ≡ least_size k → kind_at left bytes ≡ Ok (k, rest) → Waits (change_of k (left - least)) rest missing → Waits (change_at left) bytes missing
+pub waits_change : (b : Body) (left : ℕ) (bytes : List ℕ) (k : Kind) (rest : List ℕ) (least missing : ℕ) → least ≡ least_size k → kind_at b left bytes ≡ Ok (k, rest) → Waits (change_of b k (left - least)) rest missing → Waits (change_at b left) bytes missing
 unfolding change_at
-waits_change left pos bytes k rest least missing is e w =
-    waits_second (kind_at left) (IsKind left) (λ x. change_of x.0 (left - least_size x.0) x.1) (kind_reads left (omega (arith, pos))) bytes k rest missing e
-    (λ more are h. ap (λ n. change_of k (left - n) (rest ++ more)) (sym is) ∙ w more are h)
+waits_change b left bytes k rest least missing is e w =
+    waits_second (kind_at b left) (IsKind b left) (λ x. change_of b x.0 (left - least_size x.0) x.1) (kind_reads b left (kind_fits b left bytes k rest e)) bytes k rest missing e
+    (λ more are h. ap (λ n. change_of b k (left - n) (rest ++ more)) (sym is) ∙ w more are h)
 
 -- ---- frames
 
-pub waits_changes : (n : Next) (left : ℕ) (bytes : List ℕ) (missing : ℕ) → n ≡ next.Changes left → IsMore n → Waits (change_at left) bytes missing → Waits (end_from n) bytes missing
-waits_changes n left bytes missing is more_is w more are h =
-    ap (λ z. end_from z (bytes ++ more)) is ∙ ap skipped (changes_at-stop left (bytes ++ more) Short (subst IsMore is more_is) (w more are h))
+pub waits_changes : (n : Next) (b : Body) (left : ℕ) (bytes : List ℕ) (missing : ℕ) → n ≡ next.Changes b left → IsMore n → Waits (change_at b left) bytes missing → Waits (end_from n) bytes missing
+waits_changes n b left bytes missing is more_is w more are h =
+    ap (λ z. end_from z (bytes ++ more)) is ∙ ap skipped (changes_at-stop b left (bytes ++ more) Short (subst IsMore is more_is) (w more are h))
 
 -- ---- the numbers of frames that no byte can break, or only the last
 
@@ -93,26 +95,35 @@ are_eight = (refl, (refl, (refl, (refl, (refl, (refl, (refl, (refl, tt))))))))
 long_waits : (most : ℕ) → 2 ^ 64 ≤ most + 256 → (bytes : List ℕ) → IsBytes bytes → length bytes < 8 → long_at 0 most bytes ≡ Err Short
 long_waits most wide bytes are h = number_waits eight_places most 0 are_eight (omega (arith, wide)) bytes are (omega (arith, h))
 
--- a number that cannot be broken, and another reader behind it
-behind_long : {B : Type 0} (g : ℕ × List ℕ → Result B (Stop Unit)) → ((n : ℕ) (rest : List ℕ) → IsBytes rest → length rest < 8 → g (n, rest) ≡ Err Short) → (bytes : List ℕ) → IsBytes bytes → length bytes < 16 → (r : Outcome ℕ) → long_at 0 (2 ^ 64 - 1) bytes ≡ r → (r >>= g) ≡ Err Short
-behind_long g waits bytes are h (Ok n) e =
+-- a number that cannot be broken, and another reader behind it that waits for so many bytes
+behind_long : {B : Type 0} (g : ℕ × List ℕ → Result B (Stop Unit)) (count : ℕ) → ((n : ℕ) (rest : List ℕ) → IsBytes rest → length rest < count → g (n, rest) ≡ Err Short) → (bytes : List ℕ) → IsBytes bytes → length bytes < 8 + count → (r : Outcome ℕ) → long_at 0 (2 ^ 64 - 1) bytes ≡ r → (r >>= g) ≡ Err Short
+behind_long g count waits bytes are h (Ok n) e =
     let t = number_grows eight_places 0 (2 ^ 64 - 1) 0 bytes [] n.0 n.1 e in
     waits n.0 n.1 (IsBytes-end t.1 n.1 (subst IsBytes t.2 are)) (omega (arith, h, ap length t.2, length-append t.1 n.1, t.3))
-behind_long g waits bytes are h (Err Short) e = refl
-behind_long g waits bytes are h (Err (Broken fault)) e = absurd (number_unbroken eight_places (2 ^ 64 - 1) 0 are_eight (omega arith) bytes are e)
+behind_long g count waits bytes are h (Err Short) e = refl
+behind_long g count waits bytes are h (Err (Broken fault)) e = absurd (number_unbroken eight_places (2 ^ 64 - 1) 0 are_eight (omega arith) bytes are e)
 
 before_waits : (bytes : List ℕ) → IsBytes bytes → length bytes < 8 → before_end bytes ≡ Err Short
 before_waits bytes are h = ap (λ z. z >>= λ before. after_end (before.0 + 1) before.1) (long_waits (2 ^ 64 - 2) (omega arith) bytes are h)
 
-position_waits : (bytes : List ℕ) → IsBytes bytes → length bytes < 8 → position_end bytes ≡ Err Short
-position_waits bytes are h = ap skipped (long_waits (2 ^ 64 - 1) (omega arith) bytes are h)
+-- numbers that cannot be broken, one behind the other
+numbers_wait : (left : ℕ) (bytes : List ℕ) → IsBytes bytes → length bytes < 8 * left → numbers_end left bytes ≡ Err Short
+numbers_wait zero bytes are h = absurd (omega (arith, h))
+numbers_wait (suc left) bytes are h =
+    behind_long (λ number. numbers_end left number.1) (8 * left) (λ n rest rest_are k. numbers_wait left rest rest_are k) bytes are (omega (arith, h)) (long_at 0 (2 ^ 64 - 1) bytes) refl
+
+part_number_waits : (bytes : List ℕ) → IsBytes bytes → length bytes < 8 → part_number_end bytes ≡ Err Short
+part_number_waits bytes are h = ap (λ z. z >>= λ number. part_size_end number.1) (long_waits (2 ^ 64 - 1) (omega arith) bytes are h)
+
+part_position_waits : (bytes : List ℕ) → IsBytes bytes → length bytes < 16 → part_position_end bytes ≡ Err Short
+part_position_waits bytes are h = behind_long (λ position. part_number_end position.1) 8 (λ n. part_number_waits) bytes are (omega (arith, h)) (long_at 0 (2 ^ 64 - 1) bytes) refl
 
 -- the numbers of an acknowledgement are short until all of their bytes are there
 pub ack_waits : (bytes : List ℕ) → IsBytes bytes → length bytes < 16 → head_of head_kind.Ack bytes ≡ Err Short
 ack_waits bytes are h =
     let ack : ℕ → ℕ × List ℕ → Outcome Head = λ epoch position. Ok (head.Ack (record { epoch = epoch; position = position.0 }), position.1) in
-    behind_long (λ epoch. long_at 0 (2 ^ 64 - 1) epoch.1 >>= ack epoch.0)
-    (λ epoch rest rest_are k. ap (λ z. z >>= ack epoch) (long_waits (2 ^ 64 - 1) (omega arith) rest rest_are k)) bytes are h (long_at 0 (2 ^ 64 - 1) bytes) refl
+    behind_long (λ epoch. long_at 0 (2 ^ 64 - 1) epoch.1 >>= ack epoch.0) 8
+    (λ epoch rest rest_are k. ap (λ z. z >>= ack epoch) (long_waits (2 ^ 64 - 1) (omega arith) rest rest_are k)) bytes are (omega (arith, h)) (long_at 0 (2 ^ 64 - 1) bytes) refl
 
 -- what waits for so many bytes from its front on
 waits_until : (n m : Next) (count : ℕ) → n ≡ m → ((all : List ℕ) → IsBytes all → length all < count → end_from m all ≡ Err Short) → (bytes : List ℕ) (missing : ℕ) → IsBytes bytes → missing ≤ count - length bytes → Waits (end_from n) bytes missing
@@ -122,17 +133,23 @@ waits_until n m count is waits bytes missing are fits more more_are h =
 
 pub waits_epoch : (n : Next) (bytes : List ℕ) (missing : ℕ) → n ≡ next.Epoch → IsBytes bytes → missing ≤ 16 - length bytes → Waits (end_from n) bytes missing
 waits_epoch n bytes missing is are fits =
-    waits_until n next.Epoch 16 is (λ all all_are h. behind_long (λ n. before_end n.1) (λ n. before_waits) all all_are h (long_at 0 (2 ^ 64 - 1) all) refl) bytes missing are fits
+    waits_until n next.Epoch 16 is (λ all all_are h. behind_long (λ n. before_end n.1) 8 (λ n. before_waits) all all_are (omega (arith, h)) (long_at 0 (2 ^ 64 - 1) all) refl) bytes missing are fits
 
 pub waits_before : (n : Next) (bytes : List ℕ) (missing : ℕ) → n ≡ next.Before → IsBytes bytes → missing ≤ 8 - length bytes → Waits (end_from n) bytes missing
 waits_before n bytes missing is are fits = waits_until n next.Before 8 is before_waits bytes missing are fits
 
-pub waits_ack_epoch : (n : Next) (bytes : List ℕ) (missing : ℕ) → n ≡ next.AckEpoch → IsBytes bytes → missing ≤ 16 - length bytes → Waits (end_from n) bytes missing
-waits_ack_epoch n bytes missing is are fits =
-    waits_until n next.AckEpoch 16 is (λ all all_are h. behind_long (λ n. position_end n.1) (λ n. position_waits) all all_are h (long_at 0 (2 ^ 64 - 1) all) refl) bytes missing are fits
+pub waits_numbers : (n : Next) (left count : ℕ) (bytes : List ℕ) (missing : ℕ) → n ≡ next.Numbers left → IsBytes bytes → count ≤ 8 * left → missing ≤ count - length bytes → Waits (end_from n) bytes missing
+waits_numbers n left count bytes missing is are some fits = waits_until n (next.Numbers left) (8 * left) is (numbers_wait left) bytes missing are (omega (arith, some, fits))
 
-pub waits_ack_position : (n : Next) (bytes : List ℕ) (missing : ℕ) → n ≡ next.AckPosition → IsBytes bytes → missing ≤ 8 - length bytes → Waits (end_from n) bytes missing
-waits_ack_position n bytes missing is are fits = waits_until n next.AckPosition 8 is position_waits bytes missing are fits
+pub waits_part_epoch : (n : Next) (bytes : List ℕ) (missing : ℕ) → n ≡ next.PartEpoch → IsBytes bytes → missing ≤ 24 - length bytes → Waits (end_from n) bytes missing
+waits_part_epoch n bytes missing is are fits =
+    waits_until n next.PartEpoch 24 is (λ all all_are h. behind_long (λ n. part_position_end n.1) 16 (λ n. part_position_waits) all all_are (omega (arith, h)) (long_at 0 (2 ^ 64 - 1) all) refl) bytes missing are fits
+
+pub waits_part_position : (n : Next) (bytes : List ℕ) (missing : ℕ) → n ≡ next.PartPosition → IsBytes bytes → missing ≤ 16 - length bytes → Waits (end_from n) bytes missing
+waits_part_position n bytes missing is are fits = waits_until n next.PartPosition 16 is part_position_waits bytes missing are fits
+
+pub waits_part_number : (n : Next) (bytes : List ℕ) (missing : ℕ) → n ≡ next.PartNumber → IsBytes bytes → missing ≤ 8 - length bytes → Waits (end_from n) bytes missing
+waits_part_number n bytes missing is are fits = waits_until n next.PartNumber 8 is part_number_waits bytes missing are fits
 
 -- ---- the numbers of frames that a leading byte may break
 
@@ -164,7 +181,7 @@ waits_after least least_fits bytes first missing are few in_front fits more more
 -- the length of a body that begins with three zeros
 size_waits : (bytes : List ℕ) → IsBytes bytes → length bytes < 5 → size_end (0 ∷ 0 ∷ 0 ∷ bytes) ≡ Err Short
 size_waits bytes are h =
-    ap (λ z. z >>= λ size. skipped (changes_at size.0 size.1))
+    ap (λ z. z >>= λ size. skipped (changes_at bodies.Changes size.0 size.1))
     (number_waits (2 ^ 32 ∷ 2 ^ 24 ∷ 2 ^ 16 ∷ 2 ^ 8 ∷ 1 ∷ []) MAX_BODY_BYTES 0 are_eight.1.1.1 (omega arith) bytes are (omega (arith, h)))
 
 three_zeros : (bytes : List ℕ) → starts_with nat_eq bytes (0 ∷ 0 ∷ 0 ∷ []) ≡ true → (rest : List ℕ) × (bytes ≡ 0 ∷ 0 ∷ 0 ∷ rest)

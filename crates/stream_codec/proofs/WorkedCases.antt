@@ -3,7 +3,7 @@ use Rattle.std.proofs.Common.{◌≡◌, ℕ, List, [], ◌∷◌, ◌++◌, len
 use Rattle.std.specs.List.{AllByRecursion}
 use Rattle.kv_types.specs.declared.change.Change.TheVariants.{Put, Drop}
 use Rattle.kv_types.specs.declared.record_id.RecordId.TheVariants.{Str}
-use Rattle.stream_codec.specs.Message.{Sent, Changes, Acknowledged, sent_text}
+use Rattle.stream_codec.specs.Message.{Sent, Changes, Acknowledged, WantsCopy, CopiesPart, EndsCopy, sent_text}
 use Rattle.stream_codec.specs.Reading.{change_at, changes_at, head_at, message_at}
 use Rattle.stream_codec.specs.Stream.{stream_at}
 
@@ -44,6 +44,22 @@ delta_is : IsFrame (Changes 1 6 9 (Drop (Str (codes "k1")) ∷ Drop (Str (codes 
 unfolding stream_at message_at head_at changes_at change_at
 delta_is = assumption
 
+-- a copy is wanted: 9 bytes
+wanted_is : IsFrame (WantsCopy 1) 9 (3 ∷ 0 ∷ 0 ∷ 0 ∷ 0 ∷ 0 ∷ 0 ∷ 0 ∷ 1 ∷ [])
+unfolding stream_at message_at head_at changes_at change_at
+wanted_is = assumption
+
+-- the first part of a copy at position 2, a `1` and b `2`: 51 bytes
+part_is : IsFrame (CopiesPart 1 2 0 (Put (Str (codes "a")) (codes "1") ∷ Put (Str (codes "b")) (codes "2") ∷ [])) 51
+    (4 ∷ 0 ∷ 0 ∷ 0 ∷ 0 ∷ 0 ∷ 0 ∷ 0 ∷ 1 ∷ 0 ∷ 0 ∷ 0 ∷ 0 ∷ 0 ∷ 0 ∷ 0 ∷ 2 ∷ 0 ∷ 0 ∷ 0 ∷ 0 ∷ 0 ∷ 0 ∷ 0 ∷ 0 ∷ 0 ∷ 0 ∷ 0 ∷ 0 ∷ 0 ∷ 0 ∷ 0 ∷ 18 ∷ 1 ∷ 0 ∷ 1 ∷ 97 ∷ 0 ∷ 0 ∷ 0 ∷ 1 ∷ 49 ∷ 1 ∷ 0 ∷ 1 ∷ 98 ∷ 0 ∷ 0 ∷ 0 ∷ 1 ∷ 50 ∷ [])
+unfolding stream_at message_at head_at changes_at change_at
+part_is = assumption
+
+-- the end of that copy: 25 bytes
+end_is : IsFrame (EndsCopy 1 2 1) 25 (5 ∷ 0 ∷ 0 ∷ 0 ∷ 0 ∷ 0 ∷ 0 ∷ 0 ∷ 1 ∷ 0 ∷ 0 ∷ 0 ∷ 0 ∷ 0 ∷ 0 ∷ 0 ∷ 2 ∷ 0 ∷ 0 ∷ 0 ∷ 0 ∷ 0 ∷ 0 ∷ 0 ∷ 1 ∷ [])
+unfolding stream_at message_at head_at changes_at change_at
+end_is = assumption
+
 -- ---- faults come with the byte that makes them, and not before
 
 -- these bytes begin a frame, and with this byte more they are a fault
@@ -61,7 +77,7 @@ fault before byte = record { before = before; byte = byte }
 abbrev faults : List Fault
 faults =
     -- a first byte that no frame has
-    fault [] 3
+    fault [] 6
     -- a `from` above which there is no position: at byte 17
     ∷ fault (1 ∷ 0 ∷ 0 ∷ 0 ∷ 0 ∷ 0 ∷ 0 ∷ 0 ∷ 1 ∷ 255 ∷ 255 ∷ 255 ∷ 255 ∷ 255 ∷ 255 ∷ 255 ∷ []) 255
     -- a `to` that is `from`: at byte 25
@@ -78,6 +94,16 @@ faults =
     ∷ fault (1 ∷ 0 ∷ 0 ∷ 0 ∷ 0 ∷ 0 ∷ 0 ∷ 0 ∷ 1 ∷ 0 ∷ 0 ∷ 0 ∷ 0 ∷ 0 ∷ 0 ∷ 0 ∷ 0 ∷ 0 ∷ 0 ∷ 0 ∷ 0 ∷ 0 ∷ 0 ∷ 0 ∷ 1 ∷ 0 ∷ 0 ∷ 0 ∷ 0 ∷ 0 ∷ 0 ∷ 16 ∷ 0 ∷ 5 ∷ 2 ∷ []) 1
     -- a value of 1,048,577 bytes: at byte 40
     ∷ fault (1 ∷ 0 ∷ 0 ∷ 0 ∷ 0 ∷ 0 ∷ 0 ∷ 0 ∷ 1 ∷ 0 ∷ 0 ∷ 0 ∷ 0 ∷ 0 ∷ 0 ∷ 0 ∷ 0 ∷ 0 ∷ 0 ∷ 0 ∷ 0 ∷ 0 ∷ 0 ∷ 0 ∷ 1 ∷ 0 ∷ 0 ∷ 0 ∷ 0 ∷ 0 ∷ 30 ∷ 132 ∷ 128 ∷ 1 ∷ 0 ∷ 0 ∷ 0 ∷ 16 ∷ 0 ∷ []) 1
+    -- a part of no bytes: at byte 33
+    ∷ fault (4 ∷ 0 ∷ 0 ∷ 0 ∷ 0 ∷ 0 ∷ 0 ∷ 0 ∷ 1 ∷ 0 ∷ 0 ∷ 0 ∷ 0 ∷ 0 ∷ 0 ∷ 0 ∷ 2 ∷ 0 ∷ 0 ∷ 0 ∷ 0 ∷ 0 ∷ 0 ∷ 0 ∷ 0 ∷ 0 ∷ 0 ∷ 0 ∷ 0 ∷ 0 ∷ 0 ∷ 0 ∷ []) 0
+    -- a part of 6 bytes, which no put has: at byte 33
+    ∷ fault (4 ∷ 0 ∷ 0 ∷ 0 ∷ 0 ∷ 0 ∷ 0 ∷ 0 ∷ 1 ∷ 0 ∷ 0 ∷ 0 ∷ 0 ∷ 0 ∷ 0 ∷ 0 ∷ 2 ∷ 0 ∷ 0 ∷ 0 ∷ 0 ∷ 0 ∷ 0 ∷ 0 ∷ 0 ∷ 0 ∷ 0 ∷ 0 ∷ 0 ∷ 0 ∷ 0 ∷ 0 ∷ []) 6
+    -- a part of 2,097,153 bytes: at byte 33
+    ∷ fault (4 ∷ 0 ∷ 0 ∷ 0 ∷ 0 ∷ 0 ∷ 0 ∷ 0 ∷ 1 ∷ 0 ∷ 0 ∷ 0 ∷ 0 ∷ 0 ∷ 0 ∷ 0 ∷ 2 ∷ 0 ∷ 0 ∷ 0 ∷ 0 ∷ 0 ∷ 0 ∷ 0 ∷ 0 ∷ 0 ∷ 0 ∷ 0 ∷ 0 ∷ 0 ∷ 32 ∷ 0 ∷ []) 1
+    -- a part that begins with a drop: at byte 34
+    ∷ fault (4 ∷ 0 ∷ 0 ∷ 0 ∷ 0 ∷ 0 ∷ 0 ∷ 0 ∷ 1 ∷ 0 ∷ 0 ∷ 0 ∷ 0 ∷ 0 ∷ 0 ∷ 0 ∷ 2 ∷ 0 ∷ 0 ∷ 0 ∷ 0 ∷ 0 ∷ 0 ∷ 0 ∷ 0 ∷ 0 ∷ 0 ∷ 0 ∷ 0 ∷ 0 ∷ 0 ∷ 0 ∷ 18 ∷ []) 3
+    -- a part of 13 bytes whose first put has 8, so that no other one fits behind it: at byte 40
+    ∷ fault (4 ∷ 0 ∷ 0 ∷ 0 ∷ 0 ∷ 0 ∷ 0 ∷ 0 ∷ 1 ∷ 0 ∷ 0 ∷ 0 ∷ 0 ∷ 0 ∷ 0 ∷ 0 ∷ 2 ∷ 0 ∷ 0 ∷ 0 ∷ 0 ∷ 0 ∷ 0 ∷ 0 ∷ 0 ∷ 0 ∷ 0 ∷ 0 ∷ 0 ∷ 0 ∷ 0 ∷ 0 ∷ 13 ∷ 1 ∷ 0 ∷ 0 ∷ 0 ∷ 0 ∷ 0 ∷ []) 1
     ∷ []
 
 are_faults : AllByRecursion IsFault faults

@@ -8,6 +8,12 @@ use Rattle.kv_types.specs.Reader.{Read, ◌>>=◌}
 abbrev pub Outcome : Type 0 → Type 0
 Outcome A = Result (Read A) (Stop Unit)
 
+-- what the first of two readers answers of the same bytes, or the second where these break the first
+abbrev pub or_else : {A : Type 0} → Outcome A → Outcome A → Outcome A
+or_else (Ok read) other = Ok read
+or_else (Err Short) other = Err Short
+or_else (Err (Broken fault)) other = other
+
 -- each is a byte
 abbrev pub IsBytes : List ℕ → Type 0
 IsBytes bytes = (i : ℕ) → get_or bytes i 0 < 256

@@ -3,6 +3,7 @@ use Rattle.std.specs.Prelude.{◌≡◌, ℕ, ◌+◌, ◌-◌, ◌<◌, ◌≤�
 use Rattle.kv_types.specs.declared.stop.Stop.{Stop}
 use Rattle.kv_types.specs.declared.stop.Stop.TheVariants.{Short, Broken}
 use Rattle.kv_types.specs.Reader.{◌>>=◌, skipped}
+use Rattle.stream_codec.specs.declared.change.Body.{Body}
 use Rattle.stream_codec.specs.declared.message.Message.{Message}
 use Rattle.stream_codec.specs.declared.scan.Progress.{Progress}
 use Rattle.stream_codec.specs.declared.scan.Look.{Look}
@@ -28,8 +29,8 @@ IsEnd bytes rest = (prefix : List ℕ) × (bytes ≡ prefix ++ rest)
 abbrev pub Waits : {A : Type 0} → (List ℕ → Result A (Stop Unit)) → List ℕ → ℕ → Type 0
 Waits read bytes missing = (more : List ℕ) → IsBytes more → length more < missing → read (bytes ++ more) ≡ Err Short
 
-abbrev pub field_and_value_at : ℕ → List ℕ → Outcome (List ℕ)
-field_and_value_at spare bytes = name_at spare bytes >>= λ field. value_at (spare - length field.0) field.1
+abbrev pub field_and_value_at : Body → ℕ → List ℕ → Outcome (List ℕ)
+field_and_value_at body spare bytes = name_at spare bytes >>= λ field. value_at body (spare - length field.0) field.1
 
 -- whatever comes, the frame ends where it does from what comes next on
 abbrev pub EndsAlike : Next → List ℕ → Next → List ℕ → Type 0

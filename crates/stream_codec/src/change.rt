@@ -1,14 +1,24 @@
 //! The change at the front of bytes, without copying it.
-ghost use Rattle.std.specs.Prelude.{◌≡◌, ◌+◌, ◌-◌, ◌≤◌, length, IfOk};
+ghost use Rattle.std.specs.Prelude.{◌≡◌, ◌+◌, ◌-◌, ◌≤◌, length, option_map, IfOk};
 ghost use Rattle.kv_types.specs.Reader.{Gives};
-ghost use Rattle.stream_codec.specs.Reading.{kind_of, least_size, kind_at, name_at, value_at, change_of, change_at};
-ghost use Rattle.stream_codec.specs.Message.{IsChange};
+ghost use Rattle.stream_codec.specs.Reading.{kind_of, put_kind_of, kind_in, least_size, kind_at, name_at, put_count_at, count_at, value_at, change_of, change_at};
+ghost use Rattle.stream_codec.specs.Message.{IsChange, put_of, put_in};
 ghost use Rattle.stream_codec.specs.Shown.{shown};
 
-use crate::reading::{bytes_at, u16_at, u32_at};
+use crate::message::LEAST_PUT_BYTES;
+use crate::reading::{bytes_at, u16_at, u32_at, u32_of};
 use cmd_core::stored;
-use kv_types::{Change, MAX_KEY_BYTES, MAX_VALUE_BYTES, RecordId, Stop};
+use kv_types::{Change, MAX_KEY_BYTES, MAX_VALUE_BYTES, RecordId, Stop, Value};
 use std::alloc::{AllocError, Global};
+
+/// What a body holds.
+#[derive(Clone, Copy, Debug, PartialEq, Eq)]
+pub(crate) enum Body {
+    /// Changes of any kind, as a group has them.
+    Changes,
+    /// Puts alone, as a part of a copy has them.
+    Puts,
+}
 
 /// The kinds of changes.
 #[derive(Clone, Copy, Debug, PartialEq, Eq)]
@@ -51,13 +61,34 @@ fn kind_of(byte: u8) -> Option<Kind>
     }
 }
 
+/// The kind of a put, by its first byte.
+fn put_kind_of(byte: u8) -> Option<Kind>
+    ensures { result ≡ put_kind_of byte }
+{
+    match byte {
+        1 => Some(Kind::PutString),
+        2 => Some(Kind::PutField),
+        _ => None,
+    }
+}
+
+/// The kind of what such a body holds, by its first byte.
+fn kind_in(body: Body, byte: u8) -> Option<Kind>
+    ensures { result ≡ kind_in body byte }
+{
+    match body {
+        Body::Changes => kind_of(byte),
+        Body::Puts => put_kind_of(byte),
+    }
+}
+
 /// The kind of a change of at most `left` bytes.
-pub(crate) fn kind_at(bytes: &[u8], left: u64) -> Result<(Kind, &[u8]), Stop<()>>
-    ensures { Gives (λ x. (x.0, x.1.now)) result (kind_at left bytes.now) }
+pub(crate) fn kind_at(body: Body, bytes: &[u8], left: u64) -> Result<(Kind, &[u8]), Stop<()>>
+    ensures { Gives (λ x. (x.0, x.1.now)) result (kind_at body left bytes.now) }
 {
     match bytes.split_first() {
         None => Err(Stop::Short),
-        Some((byte, rest)) => match kind_of(*byte) {
+        Some((byte, rest)) => match kind_in(body, *byte) {
             Some(kind) if kind.least_size() <= left => Ok((kind, rest)),
             _ => Err(Stop::Broken(())),
         },
@@ -72,11 +103,39 @@ pub(crate) fn name_at(bytes: &[u8], spare: u64) -> Result<(&[u8], &[u8]), Stop<(
     bytes_at(rest, len)
 }
 
-/// A value, where the names and the value of the change have at most `spare` bytes more.
-fn value_at(bytes: &[u8], spare: u64) -> Result<(&[u8], &[u8]), Stop<()>>
-    ensures { Gives (λ x. (x.0.now, x.1.now)) result (value_at spare bytes.now) }
+/// The length of the value that ends a put, where at most `spare` bytes are left for it. What it leaves of them is nothing, or enough for another put.
+fn put_count_at(bytes: &[u8], spare: u64) -> Result<(u64, &[u8]), Stop<()>>
+    ensures { Gives (λ x. (x.0, x.1.now)) result (put_count_at spare bytes.now) }
 {
-    let (len, rest) = u32_at(bytes, spare.min(MAX_VALUE_BYTES as u64))?;
+    if spare < LEAST_PUT_BYTES {
+        return u32_of(bytes, spare);
+    }
+    let most = spare - LEAST_PUT_BYTES;
+    if spare > MAX_VALUE_BYTES as u64 {
+        return u32_at(bytes, most.min(MAX_VALUE_BYTES as u64));
+    }
+    match u32_at(bytes, most) {
+        Ok(read) => Ok(read),
+        Err(Stop::Short) => Err(Stop::Short),
+        Err(Stop::Broken(())) => u32_of(bytes, spare),
+    }
+}
+
+/// The length of a value, where at most `spare` bytes are left for it.
+pub(crate) fn count_at(body: Body, bytes: &[u8], spare: u64) -> Result<(u64, &[u8]), Stop<()>>
+    ensures { Gives (λ x. (x.0, x.1.now)) result (count_at body spare bytes.now) }
+{
+    match body {
+        Body::Changes => u32_at(bytes, spare.min(MAX_VALUE_BYTES as u64)),
+        Body::Puts => put_count_at(bytes, spare),
+    }
+}
+
+/// A value, where at most `spare` bytes are left for it.
+fn value_at(body: Body, bytes: &[u8], spare: u64) -> Result<(&[u8], &[u8]), Stop<()>>
+    ensures { Gives (λ x. (x.0.now, x.1.now)) result (value_at body spare bytes.now) }
+{
+    let (len, rest) = count_at(body, bytes, spare)?;
     bytes_at(rest, len)
 }
 
@@ -115,23 +174,49 @@ impl RawChange<'_> {
             RawChange::Clear => Change::Clear,
         })
     }
+
+    /// The record and its value, with copies of their bytes, where the change is a put.
+    pub fn to_put(self, alloc: Global) -> Result<Option<(RecordId, Value)>, AllocError>
+        requires { IsChange (shown self) }
+        ensures { IfOk result (λ found. option_map put_of found ≡ put_in (shown self.entry)) }
+    {
+        Ok(match self {
+            RawChange::PutString(key, value) => Some((
+                RecordId::Str(stored(alloc, key)?),
+                stored(alloc, value)?,
+            )),
+            RawChange::PutField(key, field, value) => {
+                let id = RecordId::Field(stored(alloc, key)?, stored(alloc, field)?);
+                Some((id, stored(alloc, value)?))
+            }
+            RawChange::DropString(_)
+            | RawChange::DropField(_, _)
+            | RawChange::DropKey(_)
+            | RawChange::Clear => None,
+        })
+    }
 }
 
 /// A change, behind its first byte.
-fn change_of(kind: Kind, spare: u64, bytes: &[u8]) -> Result<(RawChange<'_>, &[u8]), Stop<()>>
-    ensures { Gives (λ x. (shown x.0, x.1.now)) result (change_of kind spare bytes.now) }
+fn change_of(
+    body: Body,
+    kind: Kind,
+    spare: u64,
+    bytes: &[u8],
+) -> Result<(RawChange<'_>, &[u8]), Stop<()>>
+    ensures { Gives (λ x. (shown x.0, x.1.now)) result (change_of body kind spare bytes.now) }
 {
     match kind {
         Kind::PutString => {
             let (key, rest) = name_at(bytes, spare)?;
-            let (value, rest) = value_at(rest, spare - key.len() as u64)?;
+            let (value, rest) = value_at(body, rest, spare - key.len() as u64)?;
             Ok((RawChange::PutString(key, value), rest))
         }
         Kind::PutField => {
             let (key, rest) = name_at(bytes, spare)?;
             let spare = spare - key.len() as u64;
             let (field, rest) = name_at(rest, spare)?;
-            let (value, rest) = value_at(rest, spare - field.len() as u64)?;
+            let (value, rest) = value_at(body, rest, spare - field.len() as u64)?;
             Ok((RawChange::PutField(key, field, value), rest))
         }
         Kind::DropString => {
@@ -153,9 +238,13 @@ fn change_of(kind: Kind, spare: u64, bytes: &[u8]) -> Result<(RawChange<'_>, &[u
 
 /// The change at the front, of at most `left` bytes. It takes no memory, and looks at no byte of keys, fields and values.
 #[tactic(auto, unfolding(crate::specs::Reading::change_at))]
-pub(crate) fn change_at(bytes: &[u8], left: u64) -> Result<(RawChange<'_>, &[u8]), Stop<()>>
-    ensures { Gives (λ x. (shown x.0, x.1.now)) result (change_at left bytes.now) }
+pub(crate) fn change_at(
+    body: Body,
+    bytes: &[u8],
+    left: u64,
+) -> Result<(RawChange<'_>, &[u8]), Stop<()>>
+    ensures { Gives (λ x. (shown x.0, x.1.now)) result (change_at body left bytes.now) }
 {
-    let (kind, rest) = kind_at(bytes, left)?;
-    change_of(kind, left - kind.least_size(), rest)
+    let (kind, rest) = kind_at(body, bytes, left)?;
+    change_of(body, kind, left - kind.least_size(), rest)
 }

@@ -2,7 +2,7 @@
 ghost use Rattle.std.specs.Prelude.{◌≡◌, ◌≢◌, ◌⊎◌, ◌++◌, [], IfOk, IfErr, OnOk, OnErr, Ok, Err, is_none};
 ghost use Rattle.kv_types.specs.declared.refusal.Refusal.TheVariants.{FrameFault, Memory};
 ghost use Rattle.stream_codec.specs.Stream.{fed};
-ghost use Rattle.stream_codec.specs.Reading.{group_begun, group_of, head_at};
+ghost use Rattle.stream_codec.specs.Reading.{group_begun, group_in, group_of, head_at};
 ghost use Rattle.stream_codec.specs.Scanning.{IsAt, sent_of_all, IsTaken};
 
 use crate::head::{Head, head_at};
@@ -106,18 +106,28 @@ impl Begun {
     }
 }
 
-/// The numbers of the group's frame at the front, if all of them are there.
-fn group_at(bytes: &[u8]) -> Option<GroupHead>
-    ensures { result ≡ group_of (head_at bytes.now) }
+/// The numbers of a group's frame, if they are one's.
+fn group_in(head: Head) -> Option<GroupHead>
+    ensures { result ≡ group_in head }
 {
-    match head_at(bytes) {
-        Ok((Head::Group(epoch, before, after, size), _)) => Some(GroupHead {
+    match head {
+        Head::Group(epoch, before, after, size) => Some(GroupHead {
             epoch,
             before,
             after,
             size,
         }),
-        Ok((Head::Ack(_), _)) | Err(_) => None,
+        Head::Ack(_) | Head::Wanted(_) | Head::Part(_, _, _, _) | Head::End(_, _, _) => None,
+    }
+}
+
+/// The numbers of the group's frame at the front, if all of them are there.
+fn group_at(bytes: &[u8]) -> Option<GroupHead>
+    ensures { result ≡ group_of (head_at bytes.now) }
+{
+    match head_at(bytes) {
+        Ok((head, _)) => group_in(head),
+        Err(_) => None,
     }
 }
 

@@ -4,7 +4,7 @@ ghost use Rattle.kv_types.specs.Reader.{Gives};
 ghost use Rattle.stream_codec.specs.declared.head.HeadKind.TheVariants as head_kind;
 ghost use Rattle.stream_codec.specs.Reading.{head_kind_of, head_kind_at, head_of, head_at};
 
-use crate::message::MAX_BODY_BYTES;
+use crate::message::{LEAST_PUT_BYTES, MAX_BODY_BYTES, MAX_PART_BYTES};
 use crate::reading::u64_at;
 use frames::Ack;
 use kv_types::Stop;
@@ -14,14 +14,23 @@ use kv_types::Stop;
 pub(crate) enum HeadKind {
     Group,
     Ack,
+    Wanted,
+    Part,
+    End,
 }
 
-/// All of a message but the changes of a group.
+/// All of a message but the changes of a group and the puts of a part.
 #[derive(Clone, Copy, Debug, PartialEq, Eq)]
 pub(crate) enum Head {
     /// The epoch, the positions before and after, and the length of the body.
     Group(u64, u64, u64, u64),
     Ack(Ack),
+    /// Of a copy that is wanted: the epoch.
+    Wanted(u64),
+    /// Of a part: the epoch, the position, the number of the part, and the length of the body.
+    Part(u64, u64, u64, u64),
+    /// Of the end of a copy: the epoch, the position, and how many parts there are.
+    End(u64, u64, u64),
 }
 
 /// The kind of a message, by its first byte.
@@ -31,6 +40,9 @@ fn head_kind_of(byte: u8) -> Option<HeadKind>
     match byte {
         1 => Some(HeadKind::Group),
         2 => Some(HeadKind::Ack),
+        3 => Some(HeadKind::Wanted),
+        4 => Some(HeadKind::Part),
+        5 => Some(HeadKind::End),
         _ => None,
     }
 }
@@ -61,6 +73,23 @@ fn head_of(kind: HeadKind, bytes: &[u8]) -> Result<(Head, &[u8]), Stop<()>>
             Ok((Head::Group(epoch, before, after, size), rest))
         }
         HeadKind::Ack => ack_at(bytes),
+        HeadKind::Wanted => {
+            let (epoch, rest) = u64_at(bytes, 0, u64::MAX)?;
+            Ok((Head::Wanted(epoch), rest))
+        }
+        HeadKind::Part => {
+            let (epoch, rest) = u64_at(bytes, 0, u64::MAX)?;
+            let (position, rest) = u64_at(rest, 0, u64::MAX)?;
+            let (number, rest) = u64_at(rest, 0, u64::MAX)?;
+            let (size, rest) = u64_at(rest, LEAST_PUT_BYTES, MAX_PART_BYTES)?;
+            Ok((Head::Part(epoch, position, number, size), rest))
+        }
+        HeadKind::End => {
+            let (epoch, rest) = u64_at(bytes, 0, u64::MAX)?;
+            let (position, rest) = u64_at(rest, 0, u64::MAX)?;
+            let (parts, rest) = u64_at(rest, 0, u64::MAX)?;
+            Ok((Head::End(epoch, position, parts), rest))
+        }
     }
 }
 
@@ -74,7 +103,7 @@ fn ack_at(bytes: &[u8]) -> Result<(Head, &[u8]), Stop<()>>
     }
 }
 
-/// All of the message at the front but the changes of a group.
+/// All of the message at the front but the changes of a group and the puts of a part.
 #[tactic(auto, unfolding(crate::specs::Reading::head_at))]
 pub(crate) fn head_at(bytes: &[u8]) -> Result<(Head, &[u8]), Stop<()>>
     ensures { Gives (λ x. (x.0, x.1.now)) result (head_at bytes.now) }

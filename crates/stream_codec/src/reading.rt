@@ -49,6 +49,13 @@ pub(crate) fn u32_at(bytes: &[u8], most: u64) -> Result<(u64, &[u8]), Stop<()>>
     number_at(bytes, &[1 << 24, 1 << 16, 1 << 8, 1], 0, most)
 }
 
+/// This number, in four bytes.
+pub(crate) fn u32_of(bytes: &[u8], number: u64) -> Result<(u64, &[u8]), Stop<()>>
+    ensures { Gives (λ x. (x.0, x.1.now)) result (number_at four_places number number bytes.now) }
+{
+    number_at(bytes, &[1 << 24, 1 << 16, 1 << 8, 1], number, number)
+}
+
 /// A number of eight bytes, from `least` to `most`.
 pub(crate) fn u64_at(bytes: &[u8], least: u64, most: u64) -> Result<(u64, &[u8]), Stop<()>>
     ensures { Gives (λ x. (x.0, x.1.now)) result (number_at eight_places least most bytes.now) }

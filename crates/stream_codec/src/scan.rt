@@ -61,13 +61,15 @@ fn missing_of(bytes: &[u8], next: Next) -> u64
     ensures { Waits (end_from next) bytes.now result }
 {
     match next {
-        // No byte breaks an epoch, nor the position of an acknowledgement; that before a group is broken by its last byte alone.
-        Next::Epoch | Next::AckEpoch => 16_u64.saturating_sub(bytes.len() as u64),
-        Next::Before | Next::AckPosition => 8_u64.saturating_sub(bytes.len() as u64),
-        Next::Kind => 0,
+        // No byte breaks most numbers; the position before a group is broken by its last byte alone.
+        Next::Epoch | Next::PartPosition => 16_u64.saturating_sub(bytes.len() as u64),
+        Next::Before | Next::PartNumber => 8_u64.saturating_sub(bytes.len() as u64),
+        Next::PartEpoch => 24_u64.saturating_sub(bytes.len() as u64),
+        Next::Numbers(left) => left.saturating_mul(8).saturating_sub(bytes.len() as u64),
+        Next::Kind | Next::PartSize => 0,
         Next::After(least) => missing_of_after(bytes, least),
         Next::Size => missing_of_size(bytes),
-        Next::Changes(left) => missing_of_change(bytes, left),
+        Next::Changes(body, left) => missing_of_change(body, bytes, left),
     }
 }
 

@@ -1,12 +1,12 @@
 //! A frame from its front to its end, one number or one change at a time.
 ghost use Rattle.std.specs.Prelude.{◌≡◌, ◌+◌, ◌-◌, ◌<◌, length};
 ghost use Rattle.kv_types.specs.Reader.{Gives};
-ghost use Rattle.stream_codec.specs.declared.step.Next.TheVariants.{Changes};
+ghost use Rattle.stream_codec.specs.declared.step.Next.TheVariants.{Changes, Numbers};
 ghost use Rattle.stream_codec.specs.Stepping.{first_of, step_of, IsMore, is_more};
 
-use crate::change::change_at;
+use crate::change::{Body, change_at};
 use crate::head::{HeadKind, head_kind_at};
-use crate::message::MAX_BODY_BYTES;
+use crate::message::{LEAST_PUT_BYTES, MAX_BODY_BYTES, MAX_PART_BYTES};
 use crate::reading::u64_at;
 use kv_types::Stop;
 
@@ -23,12 +23,18 @@ pub(crate) enum Next {
     After(u64),
     /// The length of a group's body.
     Size,
-    /// Of an acknowledgement.
-    AckEpoch,
-    /// Of an acknowledgement.
-    AckPosition,
+    /// So many numbers, of which no byte breaks one. With none the frame has ended.
+    Numbers(u64),
+    /// Of a part of a copy.
+    PartEpoch,
+    /// Of a part of a copy.
+    PartPosition,
+    /// Which part of a copy it is.
+    PartNumber,
+    /// The length of a part's body.
+    PartSize,
     /// Changes that have so many bytes together. With none the frame has ended.
-    Changes(u64),
+    Changes(Body, u64),
 }
 
 impl Next {
@@ -37,7 +43,8 @@ impl Next {
         ensures { result ≡ is_more self }
     {
         match self {
-            Next::Changes(left) => left > 0,
+            Next::Numbers(left) => left > 0,
+            Next::Changes(_, left) => left > 0,
             _ => true,
         }
     }
@@ -49,18 +56,29 @@ fn first_of(kind: HeadKind) -> Next
 {
     match kind {
         HeadKind::Group => Next::Epoch,
-        HeadKind::Ack => Next::AckEpoch,
+        HeadKind::Ack => Next::Numbers(2),
+        HeadKind::Wanted => Next::Numbers(1),
+        HeadKind::Part => Next::PartEpoch,
+        HeadKind::End => Next::Numbers(3),
     }
 }
 
 /// Passes a change, and tells how many bytes of changes follow it.
-fn pass_change(bytes: &[u8], left: u64) -> Result<(Next, &[u8]), Stop<()>>
-    requires { 0 < left }
-    ensures { Gives (λ x. (x.0, x.1.now)) result (step_of (Changes left) bytes.now) }
+fn pass_change(body: Body, bytes: &[u8], left: u64) -> Result<(Next, &[u8]), Stop<()>>
+    ensures { Gives (λ x. (x.0, x.1.now)) result (step_of (Changes body left) bytes.now) }
 {
-    let (_, rest) = change_at(bytes, left)?;
+    let (_, rest) = change_at(body, bytes, left)?;
     let size = (bytes.len() - rest.len()) as u64;
-    Ok((Next::Changes(left - size), rest))
+    Ok((Next::Changes(body, left - size), rest))
+}
+
+/// Passes a number that no byte breaks, of so many.
+fn pass_number(bytes: &[u8], left: u64) -> Result<(Next, &[u8]), Stop<()>>
+    requires { 0 < left }
+    ensures { Gives (λ x. (x.0, x.1.now)) result (step_of (Numbers left) bytes.now) }
+{
+    let (_, rest) = u64_at(bytes, 0, u64::MAX)?;
+    Ok((Next::Numbers(left - 1), rest))
 }
 
 /// Passes what comes next, and tells what follows it.
@@ -87,16 +105,25 @@ pub(crate) fn step_at(bytes: &[u8], next: Next) -> Result<(Next, &[u8]), Stop<()
         }
         Next::Size => {
             let (size, rest) = u64_at(bytes, 0, MAX_BODY_BYTES)?;
-            Ok((Next::Changes(size), rest))
+            Ok((Next::Changes(Body::Changes, size), rest))
         }
-        Next::AckEpoch => {
+        Next::Numbers(left) => pass_number(bytes, left),
+        Next::PartEpoch => {
             let (_, rest) = u64_at(bytes, 0, u64::MAX)?;
-            Ok((Next::AckPosition, rest))
+            Ok((Next::PartPosition, rest))
         }
-        Next::AckPosition => {
+        Next::PartPosition => {
             let (_, rest) = u64_at(bytes, 0, u64::MAX)?;
-            Ok((Next::Changes(0), rest))
+            Ok((Next::PartNumber, rest))
         }
-        Next::Changes(left) => pass_change(bytes, left),
+        Next::PartNumber => {
+            let (_, rest) = u64_at(bytes, 0, u64::MAX)?;
+            Ok((Next::PartSize, rest))
+        }
+        Next::PartSize => {
+            let (size, rest) = u64_at(bytes, LEAST_PUT_BYTES, MAX_PART_BYTES)?;
+            Ok((Next::Changes(Body::Puts, size), rest))
+        }
+        Next::Changes(body, left) => pass_change(body, bytes, left),
     }
 }

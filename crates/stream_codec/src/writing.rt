@@ -2,6 +2,7 @@
 ghost use Rattle.std.specs.Prelude.{◌≡◌, ◌+◌, ◌^◌, ◌<◌, ◌≤◌, [], ◌∷◌, ◌++◌, length, OnOk, OnErr, IsOk};
 ghost use Rattle.std.specs.List.{flat_map, AllByRecursion};
 ghost use Rattle.std.specs.Option.{SomeIff};
+ghost use Rattle.kv_types.specs.declared.change.Change.TheVariants.{Put};
 ghost use Rattle.kv_types.specs.Change.{short_bytes, long_bytes, change_text, changes_text, changes_size};
 ghost use Rattle.stream_codec.specs.Message.{IsChange, IsWithinLimits, long, sent_of_frame, sent_of_ack, sent_text};
 ghost use Rattle.stream_codec.specs.Puts.{Puts};
@@ -84,7 +85,7 @@ fn put_group<W: BufMut>(frame: &Frame, out: &mut W) -> Result<(), AllocError>
 }
 
 /// Puts numbers, each in eight bytes.
-fn put_numbers<W: BufMut>(numbers: &[u64], out: &mut W) -> Result<(), AllocError>
+pub(crate) fn put_numbers<W: BufMut>(numbers: &[u64], out: &mut W) -> Result<(), AllocError>
     ensures { Puts result (W.written out.old) (W.written out.new) (W.spare out.old) (W.spare out.new) (flat_map long numbers.now) }
 {
     for number in numbers {
@@ -108,15 +109,7 @@ fn put_change<W: BufMut>(change: &Change, out: &mut W) -> Result<(), AllocError>
     ensures within { OnOk result (IsChange change.now) }
 {
     match change {
-        Change::Put(RecordId::Str(key), value) => {
-            put_first(1, key, out)?;
-            put_value(value, out)
-        }
-        Change::Put(RecordId::Field(key, field), value) => {
-            put_first(2, key, out)?;
-            put_name(field, out)?;
-            put_value(value, out)
-        }
+        Change::Put(id, value) => put_record(id, value, out),
         Change::Drop(RecordId::Str(key)) => put_first(3, key, out),
         Change::Drop(RecordId::Field(key, field)) => {
             put_first(4, key, out)?;
@@ -124,6 +117,28 @@ fn put_change<W: BufMut>(change: &Change, out: &mut W) -> Result<(), AllocError>
         }
         Change::DropKey(key) => put_first(5, key, out),
         Change::Clear => out.put_u8(6),
+    }
+}
+
+/// Puts the change that sets a record to a value.
+pub(crate) fn put_record<W: BufMut>(
+    id: &RecordId,
+    value: &Value,
+    out: &mut W,
+) -> Result<(), AllocError>
+    ensures puts { Puts result (W.written out.old) (W.written out.new) (W.spare out.old) (W.spare out.new) (change_text (Put id.now value.now)) }
+    ensures within { OnOk result (IsChange (Put id.now value.now)) }
+{
+    match id {
+        RecordId::Str(key) => {
+            put_first(1, key, out)?;
+            put_value(value, out)
+        }
+        RecordId::Field(key, field) => {
+            put_first(2, key, out)?;
+            put_name(field, out)?;
+            put_value(value, out)
+        }
     }
 }
 

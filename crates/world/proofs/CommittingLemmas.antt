@@ -72,14 +72,7 @@ made remote contents group = after_group (floored remote contents) group
 
 made-at : (holder : Holder) (calls : List Call) (p remote : ℕ) (contents : Contents) (group : Group) → AreContentsAt holder calls p (after_group contents group)
     → AreContentsAt holder calls p (made remote contents group)
-made-at holder calls p remote contents group are = record {
-  at = are.at;
-  role_is = are.role_is;
-  epoch_is = are.epoch_is;
-  lines_are = are.lines_are;
-  consistent = record { free = are.consistent.free; beyond = are.consistent.beyond };
-  map = are.map;
-}
+made-at holder calls p remote contents group are = search (rules, are)
 
 pub made-lawful : (remote : ℕ) (contents : Contents) (group : Group) → AreLawful (after_group contents group) → AreLawful (made remote contents group)
 made-lawful remote contents group are =

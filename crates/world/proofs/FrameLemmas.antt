@@ -1,9 +1,10 @@
 -- Frames, the spans of the groups that they carry, and the list of calls that both are of.
 use Rattle.std.proofs.Common.{◌≡◌, ℕ, zero, suc, ◌<◌, List, [], ◌∷◌, ◌++◌, length, Some, Vec, Global, true, nat_lt, slice_index_or, refl, sym, ap, subst, ◌∙◌, arith, rules, ap₂}
-use Rattle.world.specs.Words.{Ack, Acknowledged, Acknowledgement, Call, changes_size, cut_at, Frame, IsSent, IsWithinLimits, keyspace_after, play_all, Sent, sent_of_ack, sent_of_frame, Span}
+use Rattle.world.specs.Words.{Ack, Acknowledged, Acknowledgement, Call, changes_size, cut_at, Frame, IsSent, IsWithinLimits, keyspace_after, Message, play_all, Sent, sent_of, sent_of_ack, sent_of_frame, Span}
 use Rattle.world.proofs.Words.{keyspace_after-cut_at-append, ltb-true, position_of_grows, slice_get-get_or}
 use Rattle.std.specs.Prelude.{slice_get}
 use Rattle.frames.specs.Copy.{IsCopy}
+use Rattle.stream_codec.specs.declared.message.Message.TheVariants as message
 use Rattle.world.specs.Standby.{told_by}
 use Rattle.world.specs.Link.{LiesWithin, IsFrameOf, AreFramesOf, IsFrameRead, AreFramesRead, IsFrameSent, AreFramesSent, IsAckSent, AreAcksSent, span_of}
 
@@ -150,9 +151,17 @@ pub found-there : {X : Type 0} (xs ys : List X) (n : ℕ) (x : X) → xs ≡ ys 
 found-there {X} xs ys n x same within is =
     subst (λ (all : List X). slice_get all n ≡ Some x) same (slice_get-get_or xs n x (ltb-true n (length xs) (sym within)) ∙ ap Some (sym is))
 
--- no frame reads as an acknowledgement, and no acknowledgement as a frame
-pub ack_is_no_frame : (ack : Ack) (frame : Frame) → sent_of_ack ack ≡ sent_of_frame frame → ⊥
-ack_is_no_frame ack frame same = cc
+-- nothing but a group reads as a frame, and nothing but an acknowledgement as one
+pub reads_as_frame : (read : Message) (frame : Frame) → sent_of read ≡ sent_of_frame frame → ((group : Frame) → read ≡ message.Group group → ⊥) → ⊥
+reads_as_frame (message.Group group) frame same other = other group refl
+reads_as_frame (message.Ack ack) frame same other = cc
+reads_as_frame (message.CopyWanted wanted) frame same other = cc
+reads_as_frame (message.CopyPart part) frame same other = cc
+reads_as_frame (message.CopyEnd end) frame same other = cc
 
-pub frame_is_no_ack : (frame : Frame) (epoch position : ℕ) → sent_of_frame frame ≡ Acknowledged epoch position → ⊥
-frame_is_no_ack frame epoch position same = cc
+pub reads_as_ack : (read : Message) (epoch position : ℕ) → sent_of read ≡ Acknowledged epoch position → ((ack : Ack) → read ≡ message.Ack ack → ⊥) → ⊥
+reads_as_ack (message.Group group) epoch position same other = cc
+reads_as_ack (message.Ack ack) epoch position same other = other ack refl
+reads_as_ack (message.CopyWanted wanted) epoch position same other = cc
+reads_as_ack (message.CopyPart part) epoch position same other = cc
+reads_as_ack (message.CopyEnd end) epoch position same other = cc

@@ -45,14 +45,7 @@ raising-limit floor r = elim (cases_lt r.floor floor) [
 
 -- the contents are at their position under a record that raises the floor
 pub contents-raised : (holder : Holder) (calls : List Call) (p floor : ℕ) (contents : Contents) → AreContentsAt holder calls p contents → AreContentsAt holder calls p (floor_raised floor contents)
-contents-raised holder calls p floor contents are = record {
-  at = are.at;
-  role_is = are.role_is;
-  epoch_is = are.epoch_is;
-  lines_are = are.lines_are;
-  consistent = record { free = are.consistent.free; beyond = are.consistent.beyond };
-  map = are.map;
-}
+contents-raised holder calls p floor contents are = search (rules, are)
 
 pub engine-freed : (holder : Holder) (calls : List Call) (p floor : ℕ) (device device' : State) (contents contents' : Contents) (is_faulted is_faulted' : Bool) (entries : List EntryNo) → AreEnded contents entries
     → Same (after_free entries (floor_raised floor contents)) contents' → (¬ ExhaustsRaising floor contents.current) → IsDurable device' contents' → is_faulted' ≡ false

@@ -1,5 +1,5 @@
 -- The images that a call of the primary may leave where a crash cuts it, or a fence fails in it.
-use Rattle.std.proofs.Common.{◌≡◌, ◌≤◌, Bool, true, false, ◌&&◌, List, [], ◌∷◌, ◌++◌, refl, sym, ap, subst, ◌∙◌, arith, le_refl, append-nil, true≢false}
+use Rattle.std.proofs.Common.{rules, ◌≡◌, ◌≤◌, Bool, true, false, ◌&&◌, List, [], ◌∷◌, ◌++◌, refl, sym, ap, subst, ◌∙◌, arith, le_refl, append-nil, true≢false}
 use Rattle.std.specs.Prelude.{Contains}
 use Rattle.world.specs.Words.{AreLawful, At, Contents, Cut, halted, Holder, Image, is_between, is_crashed, is_running, Keeps, LeavesOnly, left_by, Life, may_clear, may_commit, may_cut, may_free, position_of, Remains, Sound, State, torn, with_life, World}
 use Rattle.world.proofs.Words.{and_parts, none_leaves}
@@ -82,29 +82,11 @@ cut-whole w call inside may = by call inside may
 -- It stopped in the call. What the call may leave of it, a crash between two events may leave then.
 pub left-halted : (holder : Holder) (w : World) (call : Cut) (image : Image) → torn w.primary.life ≡ [] → LeftBy holder w call image
     → LeftBy holder (halted node.Primary (left_by w node.Primary call) w) cut.Between image
-left-halted holder w call image whole left = record {
-  position = left.position;
-  one = subst (λ (others : List Remains). Contains (At w.primary.committer.position ∷ others) (At left.position))
-      (ap (λ (before : List Remains). before ++ left_by w node.Primary call) whole ∙ sym (append-nil (left_by w node.Primary call))) left.one;
-  rises = left.rises;
-  within = left.within;
-  contents = left.contents;
-  contents_at = left.contents_at;
-  lawful = left.lawful;
-  keeps = left.keeps;
-  recalls = left.recalls;
-}
+left-halted holder w call image whole left =
+    let one = subst (λ (others : List Remains). Contains (At w.primary.committer.position ∷ others) (At left.position))
+    (ap (λ (before : List Remains). before ++ left_by w node.Primary call) whole ∙ sym (append-nil (left_by w node.Primary call))) left.one in
+    search (rules, one, left)
 
 -- it is fenced
 pub left-fenced : (holder : Holder) (w : World) (image : Image) → LeftBy holder w cut.Between image → LeftBy holder (with_life node.Primary (machine.Retired (torn w.primary.life)) w) cut.Between image
-left-fenced holder w image left = record {
-  position = left.position;
-  one = left.one;
-  rises = left.rises;
-  within = left.within;
-  contents = left.contents;
-  contents_at = left.contents_at;
-  lawful = left.lawful;
-  keeps = left.keeps;
-  recalls = left.recalls;
-}
+left-fenced holder w image left = search (rules, left)

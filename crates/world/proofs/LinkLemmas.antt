@@ -10,6 +10,8 @@ use Rattle.model.proofs.SizeLemmas.{changes_of_group_within}
 use Rattle.machine.specs.Event.{sent_group, sent_waiting, above, ended_at, Link as Machine}
 use Rattle.pipes.specs.Waiting.{LocalTakes}
 use Rattle.standby_stream.specs.Stream.{TakesNext, IsFull, IsDue, Frames, IsFrameOf as IsFramed, above as frames_above}
+use Rattle.standby_stream.specs.Copying.{ended_at as stage_at}
+use Rattle.standby_stream.specs.declared.copying.Copying.TheVariants as stages
 use Rattle.world.specs.Link.{IsFrameOf, AreFramesOf, LinkRefines}
 use Rattle.node_steps.proofs.GroupSpanLemmas.{AreGroupsOf-grows}
 use Rattle.world.proofs.FrameLemmas.{AreFramesOf-grows, AreFramesOf-push, length-frames}
@@ -28,6 +30,8 @@ link-nothing calls code handed remote epoch none is at = subst (λ (s : Stream).
   remote_is = at;
   copying_is = refl;
   dropped_is = refl;
+  code_follows = refl;
+  none_aside = refl;
 })
 
 pub LinkRefines-grows : (calls more : List Call) (code : Stream) (handed : Waiting Group) (remote : ℕ) (machine : Machine) → LinkRefines calls code handed remote machine
@@ -126,7 +130,7 @@ Sends epoch calls machine (Err refusal) new handed remote = can_send machine ≡
 
 -- what `Link::next_frame` says of its answer
 pub record Answers (code : Stream) (handed : Waiting Group) (result : Result (Option ℕ) Refusal) (new : Stream) (after : Waiting Group) : Type 0 where
-  pub again : code.next < length code.kept → (result ≡ Ok (Some code.next)) × (new ≡ record code { next = code.next + 1 }) × (after ≡ handed)
+  pub again : code.copying ≡ stages.Follows → code.next < length code.kept → (result ≡ Ok (Some code.next)) × (new ≡ record code { next = code.next + 1 }) × (after ≡ handed)
   pub full : IsFull code → (result ≡ Ok None) × (new ≡ code) × (after ≡ handed)
   pub next : IsDue code → IfOk result (λ given. (found : Option Group) × TakesNext LocalTakes code.pending handed found after × Frames code found given new)
   pub refused : IfErr result (λ refusal. (refusal ≡ Memory) × IsDue code × ((group : Group) × TakesNext LocalTakes code.pending handed (Some group) after × (new ≡ record code { pending = Some group })))
@@ -206,6 +210,8 @@ module _ (calls : List Call) (code : Stream) (handed : Waiting Group) (remote : 
         remote_is = stands.remote_is;
         copying_is = stands.copying_is;
         dropped_is = stands.dropped_is;
+        code_follows = stands.code_follows;
+        none_aside = stands.none_aside;
       } in
       record {
         may = may_first group after due first;
@@ -242,7 +248,7 @@ module _ (calls : List Call) (code : Stream) (handed : Waiting Group) (remote : 
   pub sends : (result : Result (Option ℕ) Refusal) (new : Stream) (after : Waiting Group) → Answers code handed result new after → Sends code.epoch calls machine result new after remote
   sends result new after answers = elim (eq-or-lt_of_le stands.next_within) [
     | inl all ↦ elim (cases_lt (length code.kept) KEPT_GROUPS) [
-      | inl room ↦ due result (record { all_sent = all; room = room }) answers.next answers.refused
+      | inl room ↦ due result (record { follows = stands.code_follows; all_sent = all; room = room }) answers.next answers.refused
       | inr many ↦
           let is = answers.full (record { all_sent = all; many = many }) in
           subst (λ (r : Result (Option ℕ) Refusal). Sends code.epoch calls machine r new after remote) (sym is.0)
@@ -250,7 +256,7 @@ module _ (calls : List Call) (code : Stream) (handed : Waiting Group) (remote : 
           (subst (λ (w : Waiting Group). SendsNone code.epoch calls machine code w remote) (sym is.2) (record { may = sends-full (record { all_sent = all; many = many }); epoch_is = refl; link = stands })))
     ]
     | inr lt ↦
-        let is = answers.again lt in
+        let is = answers.again stands.code_follows lt in
         subst (λ (r : Result (Option ℕ) Refusal). Sends code.epoch calls machine r new after remote) (sym is.0)
         (subst (λ (s : Stream). SendsAt code.epoch calls machine code.next s after remote) (sym is.1)
         (subst (λ (w : Waiting Group). SendsAt code.epoch calls machine code.next (record code { next = code.next + 1 }) w remote) (sym is.2) (sends-again lt)))
@@ -354,6 +360,8 @@ knows calls code handed remote position machine from to stands chain =
       remote_is = stands.remote_is;
       copying_is = stands.copying_is;
       dropped_is = stands.dropped_is;
+      code_follows = ap (stage_at position) stands.code_follows;
+      none_aside = ap (frames_above position) stands.none_aside;
     })
 
 -- one that tells nothing takes nothing

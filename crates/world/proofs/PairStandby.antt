@@ -4,6 +4,8 @@ use Rattle.world.specs.Words.{Ack, Acknowledgement, acknowledgement_of, Call, ch
 use Rattle.world.proofs.Words.{cases_lt, grows-step, le-ltb, lt-ltb}
 use Rattle.kv_types.specs.declared.change.Change.{Change}
 use Rattle.standby_stream.specs.Delta.{IsDelta}
+use Rattle.standby_stream.specs.Leading.{reaches_above}
+use Rattle.standby_stream.specs.Stream.{opened as opened_anew}
 use Rattle.machine.specs.declared.event.Event.TheVariants as events
 use Rattle.machine.specs.Event.{Standby as MachineStandby, acknowledged_of, due_delta, due_from, opened_link, opened_to}
 use Rattle.world.proofs.AroundLemmas.{around-stands, around-standby}
@@ -107,17 +109,17 @@ record IsDue (epoch : ℕ) (opening : Opening) (position : ℕ) (delta : Option 
 
 -- what `Outgoing::open_at` says of a link that was opened
 pub record Reopens (old : Stream) (opening : Opening) (position : ℕ) (new : Stream) : Type 0 where
-  pub behind : position < opening.position → old.known < opening.position → (frame : Frame) × IsDelta old.epoch opening position frame × (new ≡ record old { next = 0; delta = Some frame })
-  pub level : opening.position ≤ position → old.known ≤ position → new ≡ record old { next = 0; delta = None }
+  pub behind : position < opening.position → old.known < opening.position → old.aside ≡ [] → (frame : Frame) × IsDelta old.epoch opening position frame × (new ≡ opened_anew (Some frame) old)
+  pub level : opening.position ≤ position → old.known ≤ position → reaches_above position old.aside ≡ false → new ≡ opened_anew None old
 
 -- where no higher position is known, it is to send what the standby is due
-reopens-due : (old : Stream) (opening : Opening) (position : ℕ) (new : Stream) → old.known ≤ position → Reopens old opening position new
-    → (delta : Option Frame) × IsDue old.epoch opening position delta × (new ≡ record old { next = 0; delta = delta })
-reopens-due old opening position new known reopens = elim (cases_lt position opening.position) [
+reopens-due : (old : Stream) (opening : Opening) (position : ℕ) (new : Stream) → old.known ≤ position → old.aside ≡ [] → Reopens old opening position new
+    → (delta : Option Frame) × IsDue old.epoch opening position delta × (new ≡ opened_anew delta old)
+reopens-due old opening position new known none reopens = elim (cases_lt position opening.position) [
   | inl below ↦
-      let one = reopens.behind below (omega (arith, known, below)) in
+      let one = reopens.behind below (omega (arith, known, below)) none in
       (Some one.0, record { due = λ _. (one.0, refl, one.1); none = λ level. absurd (omega (arith, below, level)) }, one.2)
-  | inr level ↦ (None, record { due = λ below. absurd (omega (arith, below, level)); none = λ _. refl }, reopens.level level known)
+  | inr level ↦ (None, record { due = λ below. absurd (omega (arith, below, level)); none = λ _. refl }, reopens.level level known (ap (reaches_above position) none))
 ]
 
 -- the delta is the frame of its span
@@ -171,11 +173,11 @@ open-does old arrivals link opening ack follows is acknowledges reopens same =
     let around : AroundRefines second (with_arrivals arrivals old) w' =
     around-standby parts.around (not-over old.lives.standby follows) arrivals old.standby old.lives.standby w.standby.waiting w.standby.position (torn w.standby.life) (w.wire.acknowledgements ++ acknowledgement_of w.standby ∷ []) told parts.standby in
     let heard : PartsRefine first second (with_arrivals arrivals old) w' = search (rules, around, parts) in
-    let reopened = reopens-due old.wire.link old.wire.opening ack.position link (known-within old ack follows is stands) reopens in
+    let reopened = reopens-due old.wire.link old.wire.opening ack.position link (known-within old ack follows is stands) parts.link.none_aside reopens in
     let delta : Option Frame = reopened.0 in
     let machine = opened_link (due_delta w.standby.position (due_from w.primary)) w.primary.link in
     let due : max w.primary.opened w.primary.link.dropped ≡ w.primary.opened = omega (arith, parts.link.dropped_is) in
-    let opened : LinkRefines w.primary.calls (record old.wire.link { next = 0; delta = delta }) old.primary.handed old.wire.remote machine = record {
+    let opened : LinkRefines w.primary.calls (opened_anew delta old.wire.link) old.primary.handed old.wire.remote machine = record {
       waiting = parts.link.waiting;
       none_pending = parts.link.none_pending;
       delta = subst (λ from. AreFramesOf old.wire.link.epoch w.primary.calls (option_items delta) (due_delta w.standby.position from)) (sym due)
@@ -188,6 +190,8 @@ open-does old arrivals link opening ack follows is acknowledges reopens same =
       remote_is = parts.link.remote_is;
       copying_is = refl;
       dropped_is = parts.link.dropped_is;
+      code_follows = refl;
+      none_aside = parts.link.none_aside;
     } in
     let moved = link-alone first second (with_arrivals arrivals old) old.primary.handed link old.wire.remote w' machine heard (ap (λ (s : Stream). s.epoch) reopened.2)
     (subst (λ (s : Stream). LinkRefines w.primary.calls s old.primary.handed old.wire.remote machine) (sym reopened.2) opened) in
@@ -211,13 +215,13 @@ open-cut old wire result refusal follows is memory = open-lacks old wire result 
 -- For the delta. It is never refused as forgotten, nor as freed: what is told of the opening is there as long as the standby may be behind, which is no lower than the
 -- floor.
 pub open-refused : (old : Pair) (wire : Wire) (ack : Ack) (result : Result Bool Refusal) (refusal : Refusal) → runs old.lives.standby ≡ true
-    → ack ≡ record { epoch = old.standby.epoch; position = old.standby.contents.current.position } → result ≡ Err refusal → (old.wire.opening.position ≤ ack.position → old.wire.link.known ≤ ack.position → ⊥)
+    → ack ≡ record { epoch = old.standby.epoch; position = old.standby.contents.current.position } → result ≡ Err refusal → (old.wire.opening.position ≤ ack.position → old.wire.link.known ≤ ack.position → refusal ≡ Memory)
     → (old.wire.link.known < old.wire.opening.position → IsServed old.wire.opening.floor ack.position → refusal ≡ Memory) → Does old events.OpenLink result (record old { wire = wire })
-open-refused old wire ack result refusal follows is refused behind cause =
+open-refused old wire ack result refusal follows is refused level cause =
     open-lacks old wire result refusal follows refused
     (λ first second w stands. elim (cases_lt old.wire.link.known old.wire.opening.position) [
       | inl below ↦ cause below (inr (omega (arith, own-position old ack follows is stands, stands.parts.opening.floored)))
-      | inr passed ↦ absurd (behind (omega (arith, passed, known-within old ack follows is stands)) (known-within old ack follows is stands))
+      | inr passed ↦ level (omega (arith, passed, known-within old ack follows is stands)) (known-within old ack follows is stands)
     ])
 
 pub deliver-acts : (old : Pair) (arrivals : Arrived) (texts : List (Vec ℕ Global)) (frame piece : ℕ) (result : Result Bool Refusal) → runs old.lives.standby ≡ true → texts ≡ old.wire.frames

@@ -1,5 +1,5 @@
 -- What the turns of the committer do to the pair: its own clauses refine the machine's events.
-use Rattle.std.proofs.Common.{rules, ◌≡◌, ◌⊎◌, ◌-◌, ◌≤◌, ℕ, Bool, true, false, nat_lt, List, ◌∷◌, ◌++◌, length, min, Result, Ok, Err, inl, inr, refl, sym, ap, subst, ◌∙◌, arith, []}
+use Rattle.std.proofs.Common.{rules, ◌≡◌, ◌⊎◌, ◌-◌, ◌≤◌, ℕ, Bool, true, false, nat_lt, List, length, min, Result, Ok, Err, inl, inr, refl, sym, ap, subst, ◌∙◌, arith, []}
 use Rattle.world.specs.Words.{committed_first, Committer, Contents, Done, Due, due_now, Durable, Event, Exhausts, Freed, FreeList, from_group, Group, Holder, LeavesOnly, MachineCommitter, may_happen, Memory, PIPE_ITEMS, Ready, Record, Refusal, Same, SequencerRefines, Shown, State, Waiting, with_committer, Work, World}
 use Rattle.world.proofs.Words.{cases_lt, group_lawful, le-ltb, LeavesOnly-weaken, lt-ltb}
 use Rattle.std.proofs.Math.Nat.{min-eq_left, min-le_left, min-le_right}

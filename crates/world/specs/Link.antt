@@ -2,6 +2,7 @@
 use Rattle.std.specs.Prelude.{◌≡◌, ℕ, ◌<◌, ◌≤◌, List, [], ◌∷◌, drop, length, None, Vec}
 use Rattle.world.specs.Words.{Acknowledged, Acknowledgement, AreGroupsOf, Call, Changes, changes_size, cut_at, End, Frame, Global, Group, IsSent, keyspace_after, MAX_BODY_BYTES, option_items, Part, play_all, position_of, Sent, sent_of_frame, sent_text, Span, Stream, Told, Waiting}
 use Rattle.machine.specs.Event.{Follows, Link as Machine}
+use Rattle.standby_stream.specs.declared.copying.Copying.TheVariants as stages
 
 -- the span lies within the list
 pub record LiesWithin (calls : List Call) (span : Span) : Type 0 where
@@ -89,6 +90,8 @@ pub record LinkRefines (calls : List Call) (code : Stream) (handed : Waiting Gro
   pub again : drop code.next machine.kept ≡ machine.again
   pub known : code.known ≡ machine.known
   pub remote_is : remote ≡ machine.remote
-  -- a standby follows, and no group was dropped for a copy
+  -- a standby follows; no group was dropped, and no frame is aside, for a copy
   pub copying_is : machine.copying ≡ Follows
   pub dropped_is : machine.dropped ≡ 0
+  pub code_follows : code.copying ≡ stages.Follows
+  pub none_aside : code.aside ≡ []

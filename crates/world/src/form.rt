@@ -63,7 +63,9 @@ fn make_between<K: Keyspace + Drop>(
     calls: usize,
     hash_builder: RandomState,
 ) -> Result<Between<K>, Refusal>
-    requires { K.table keyspace ≡ [] }
+    requires empty { K.table keyspace ≡ [] }
+    requires unpinned { K.pins keyspace ≡ [] }
+    requires unchanged { K.last keyspace ≡ 0 }
     ensures sessions { IfOk result (λ between. SessionsRefine between.sessions between.history.transcript [] []) }
     ensures none_sent { IfOk result (λ between. (between.history.frames.items ≡ []) × (between.history.acknowledgements.items ≡ [])) }
     ensures room { IfOk result (λ between. calls ≤ vec_capacity between.history.transcript.calls) }
@@ -107,7 +109,9 @@ fn new_sequencer<K: Keyspace + Drop>(
     lines: u64,
     hash_builder: RandomState,
 ) -> Result<Sequencer<K>, Refusal>
-    requires { K.table keyspace ≡ [] }
+    requires empty { K.table keyspace ≡ [] }
+    requires unpinned { K.pins keyspace ≡ [] }
+    requires unchanged { K.last keyspace ≡ 0 }
     ensures begins { IfOk result (λ sequencer. SequencerRefines [] 0 sequencer) }
     ensures underlies { IfOk result (λ sequencer. (contents : Contents) → IsNew lines contents.current.role FIRST_EPOCH contents → IsAheadOf sequencer contents) }
     ensures expects { IfOk result (λ sequencer. (contents : Contents) → IsNew lines contents.current.role FIRST_EPOCH contents → Expects sequencer contents [] []) }
@@ -210,6 +214,8 @@ fn form<P: Crashing, K: Keyspace + Drop>(
     hash_builder: RandomState,
 ) -> Result<(Pair<WblEngine<P>, K>, History), (Refusal, P, P)>
     requires serving { K.table keyspaces.0 ≡ [] }
+    requires unpinned { K.pins keyspaces.0 ≡ [] }
+    requires unchanged { K.last keyspaces.0 ≡ 0 }
     requires following { K.table keyspaces.1 ≡ [] }
     ensures stands { IfOk result (λ opened. NodesRefine (new_holder (P.state primary).lines Role.Primary) (new_holder (P.state standby).lines Role.Standby) (⟦<Pair<WblEngine<P>, K> as Stepper>⟧.parts opened.0 opened.1) start) }
     ensures room { IfOk result (λ opened. calls ≤ vec_capacity opened.1.transcript.calls) }

@@ -1,6 +1,7 @@
 use Rattle.std.proofs.Common.{◌≡◌, [], ◌∷◌, ap, refl, sym}
 use Rattle.stream_codec.specs.Message.{Sent, sent_of, sent_of_frame}
 use Rattle.links.specs.Serving.{keeps}
+use Rattle.links.proofs.Copies.{ack_is_no_copy, is_of_copy}
 use Rattle.links.proofs.Says.{IsLeft-refl, says-none, says-of}
 use Rattle.links.proofs.Serving.{OnErr-into, OnOk-into}
 use Rattle.links.proofs.following.answer.Goals as goal
@@ -17,3 +18,13 @@ returns-in-Group-clause-says g c =
 
 pub returns-in-Ack-clause-says : goal.returns-in-Ack-clause-says
 returns-in-Ack-clause-says g c = ([], says-none _ _ _ _ (keeps _ _ _ (IsLeft-refl _)), λ _. refl)
+
+pub returns : goal.returns
+returns g c = record {
+  stands = λ _. c.requires.stands;
+  answered = tt;
+  emptied = tt;
+  says = ([], says-none _ _ _ _ (keeps _ _ _ (IsLeft-refl _)), λ _. refl);
+  misplaced = λ ack is. absurd (ack_is_no_copy c.args.message ack is (is_of_copy c.args.message c.in-CopyWanted.is));
+  of_copy = λ _. (refl, refl, refl);
+}

@@ -1,72 +1,11 @@
-use Rattle.std.proofs.Common.{Err, ℕ, List, [], Option, rules, ap, refl, sym, subst, ◌∙◌}
-use Rattle.std.proofs.lemmas.Result.{err_from_is_err_and}
-use Rattle.std.specs.Io.KnownBytes.{Consumes}
-use Rattle.links.specs.Serving.{Served, held}
-use Rattle.links.proofs.Says.{HasSaid-err, HasSaid-left, HasSaid-more, IsLeft-refl, IsLeft-tidied}
-use Rattle.links.proofs.Serving.{Served-begun, Served-more, Served-ended, Served-tidied, not_stopped, same_end}
+use Rattle.links.proofs.ServedOn.{HasSaid-on, Served-on}
+use Rattle.links.proofs.Serving.{OnErr-into, OnOk-into}
 use Rattle.links.proofs.following.answer_until_closed.Goals as goal
 
-pub loop-init : goal.loop-init
-loop-init g c =
-    let first = held (g.E.Durable.contents c.args.node.now.engine) (g.K.Keyspace.table c.args.node.now.keyspace) in
-    let bytes = g.I.Read.remaining c.args.from.now in
-    let before = g.O.Write.contents c.args.to.now in
-    record {
-      stands = c.requires.stands;
-      emptied = c.requires.empty;
-      shown = search rules;
-      served = subst (λ (unread : Option (List ℕ)). Served first bytes before first bytes before unread) (sym c.new-decoder.ensures) (Served-begun first bytes before);
-    }
+pub returns-clause-served : goal.returns-clause-served
+returns-clause-served g c =
+    OnOk-into c.answer_from.result (λ served. (served.0, Served-on _ _ _ _ _ served.0 c.new-decoder.ensures served.1)) c.answer_from.ensures.served
 
-pub returns-in-End-clause-served : goal.returns-in-End-clause-served
-returns-in-End-clause-served g c =
-    let ended : Consumes (g.I.Read.remaining c.loop.from) (g.I.Read.remaining c.read_piece.new.from) [] = search rules in
-    (c.loop.decoder, Served-ended _ _ _ _ _ _ _ _ c.loop.invariant.served ended)
-
-pub loop-preserved : goal.loop-preserved
-loop-preserved g c =
-    let consumed : Consumes (g.I.Read.remaining c.loop.from) (g.I.Read.remaining c.read_piece.new.from) c.in-Piece.piece.now = search rules in
-    let first = held (g.E.Durable.contents c.args.node.now.engine) (g.K.Keyspace.table c.args.node.now.keyspace) in
-    let last = held (g.E.Durable.contents c.answer_piece.new.node.engine) (g.K.Keyspace.table c.answer_piece.new.node.keyspace) in
-    let bytes = g.I.Read.remaining c.args.from.now in
-    let before = g.O.Write.contents c.args.to.now in
-    let left = g.I.Read.remaining c.read_piece.new.from in
-    let after = g.O.Write.contents c.answer_piece.new.to in
-    let done = c.in_ok-answer_piece.ensures.all in
-    record {
-      stands = c.in_ok-answer_piece.ensures.stands (not_stopped _);
-      emptied = c.in_ok-answer_piece.ensures.emptied;
-      shown = search rules;
-      served = subst (λ (unread : Option (List ℕ)). Served first bytes before last left after unread) (sym c.in_ok-answer_piece.ensures.unread)
-          (Served-more first (held (g.E.Durable.contents c.loop.node.engine) (g.K.Keyspace.table c.loop.node.keyspace)) last bytes before (g.I.Read.remaining c.loop.from) (g.O.Write.contents c.loop.to) left after
-          c.loop.decoder c.in-Piece.piece.now done.acks c.loop.invariant.served consumed done.run done.written);
-    }
-
-pub loop-preserved-in-Nothing : goal.loop-preserved-in-Nothing
-loop-preserved-in-Nothing g c =
-    let nothing : Consumes (g.I.Read.remaining c.loop.from) (g.I.Read.remaining c.read_piece.new.from) [] = search rules in
-    record {
-      stands = c.in_ok-tidy-in-Nothing.ensures.stands (not_stopped _);
-      emptied = c.loop.invariant.emptied;
-      shown = search rules;
-      served = Served-tidied _ (held (g.E.Durable.contents c.loop.node.engine) (g.K.Keyspace.table c.loop.node.keyspace)) _ _ _ _ _ _ _ c.loop.invariant.served nothing c.in_ok-tidy-in-Nothing.ensures.tidied;
-    }
-
--- ---- what was written
-
-pub returns-in_err-piece-clause-said : goal.returns-in_err-piece-clause-said
-returns-in_err-piece-clause-said g c =
-    HasSaid-err _ [] (HasSaid-left _ _ _ _ _ _ _ _ c.loop.decoder c.loop.invariant.served c.in_err-piece.ensures.none (IsLeft-refl _)) (λ _. refl)
-
-pub returns-in_err-tidy-in-Nothing-clause-said : goal.returns-in_err-tidy-in-Nothing-clause-said
-returns-in_err-tidy-in-Nothing-clause-said g c =
-    let nothing : Consumes (g.I.Read.remaining c.loop.from) (g.I.Read.remaining c.read_piece.new.from) [] = search rules in
-    HasSaid-err _ [] (HasSaid-left _ _ _ _ _ _ _ _ c.loop.decoder c.loop.invariant.served nothing (IsLeft-tidied _ _ c.tidy.ensures.tidied)) (λ _. refl)
-
-pub returns-in_err-answer_piece-clause-said : goal.returns-in_err-answer_piece-clause-said
-returns-in_err-answer_piece-clause-said g c =
-    let consumed : Consumes (g.I.Read.remaining c.loop.from) (g.I.Read.remaining c.read_piece.new.from) c.in-Piece.piece.now = search rules in
-    let exit = err_from_is_err_and c.from_residual-in_err-answer_piece.result c.from_residual-in_err-answer_piece.ensures.1 in
-    let says = c.in_err-answer_piece.ensures.says in
-    HasSaid-err _ says.0 (HasSaid-more _ _ _ _ _ _ _ _ _ c.loop.decoder c.in-Piece.piece.now says.0 c.loop.invariant.served consumed says.1)
-    (λ unclosed. says.2 (λ is. unclosed (exit.1 ∙ ap Err (exit.2 ∙ same_end _ _ is))))
+pub returns-clause-said : goal.returns-clause-said
+returns-clause-said g c =
+    OnErr-into c.answer_from.result (λ said. (said.0, HasSaid-on _ _ _ _ _ said.0 c.new-decoder.ensures said.1, said.2)) c.answer_from.ensures.said

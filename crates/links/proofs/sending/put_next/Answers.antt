@@ -15,7 +15,7 @@ returns-in_err-index-clause-step g c =
 pub returns-in_default-clause-step : goal.returns-in_default-clause-step
 returns-in_default-clause-step g c =
     let told = c.in_ok-index.ensures in
-    ([], Step-none g.I.Inlet.take_gives c.in_ok-index.field-0 _ _ _ _ c.args.outgoing.now.within c.in_default.is (record { kept = told.again; none = told.full; next = told.next; sends = told.sends }), sym (append-nil _))
+    ([], Step-none g.I.Inlet.take_gives c.in_ok-index.field-0 _ _ _ _ c.args.outgoing.now.within c.in_default.is (record { rests = told.rests; kept = told.again; none = told.full; next = told.next; sends = told.sends }), sym (append-nil _))
 
 pub returns-in_err-put_frame-clause-step : goal.returns-in_err-put_frame-clause-step
 returns-in_err-put_frame-clause-step g c =
@@ -23,7 +23,7 @@ returns-in_err-put_frame-clause-step g c =
     let exit = err_from_is_err_and c.from_residual-in_err-put_frame.result c.from_residual-in_err-put_frame.ensures.1 in (
       c.frame.result.now ∷ [],
       Step-sent g.I.Inlet.take_gives c.in_ok-index.field-0 c.in-Some.index _ _ _ _ c.frame.result.now c.in-Some.is
-          (record { kept = told.again; none = told.full; next = told.next; sends = told.sends }) c.frame.ensures,
+          (record { rests = told.rests; kept = told.again; none = told.full; next = told.next; sends = told.sends }) c.frame.ensures,
       OnOk-err _ _ exit.0 exit.1,
     )
 
@@ -33,11 +33,11 @@ returns-clause-step g c =
     let frame = c.frame.result.now in (
       frame ∷ [],
       Step-sent g.I.Inlet.take_gives c.in_ok-index.field-0 c.in-Some.index _ _ _ _ frame c.in-Some.is
-          (record { kept = told.again; none = told.full; next = told.next; sends = told.sends }) c.frame.ensures,
+          (record { rests = told.rests; kept = told.again; none = told.full; next = told.next; sends = told.sends }) c.frame.ensures,
       one_put _ _ frame c.in_ok-put_frame.ensures.put,
     )
 
 pub returns-in_default-clause-rests : goal.returns-in_default-clause-rests
 returns-in_default-clause-rests g c = λ _.
     let told = c.in_ok-index.ensures in
-    Waits-none g.I.Inlet.take_gives c.in_ok-index.field-0 _ _ _ _ c.args.outgoing.now.within c.in_default.is (record { kept = told.again; none = told.full; next = told.next; sends = told.sends })
+    Waits-none g.I.Inlet.take_gives c.in_ok-index.field-0 _ _ _ _ c.args.outgoing.now.within c.in_default.is (record { rests = told.rests; kept = told.again; none = told.full; next = told.next; sends = told.sends })

@@ -1,6 +1,7 @@
-use Rattle.std.proofs.Common.{◌≡◌, ◌-◌, length, take, drop, refl, sym, ap, subst, ◌∙◌, arith}
+use Rattle.std.proofs.Common.{◌≡◌, ◌-◌, ◌++◌, length, take, drop, refl, sym, ap, subst, ◌∙◌, arith}
 use Rattle.std.proofs.lemmas.List.{length-drop, take_all}
 use Rattle.mv_keyspace.specs.Table.{AreEnded, AreFresh, place_all, puts_of}
+use Rattle.mv_keyspace.specs.Versions.{kept}
 use Rattle.placing.specs.Left.{IsBeside}
 use Rattle.placing.proofs.BesideLemmas.{beside_lawful, beside_fresh, beside_after}
 use Rattle.placing.proofs.PlacesLemmas.{added}
@@ -47,3 +48,14 @@ returns-in-Ok-clause-beside g c =
     let places = c.in_ok-place_all.ensures.ok in
     subst (λ after. IsBeside after c.place_all.new.heap) (sym (c.in-Ok.ensures.table ∙ ap (place_all c.args.part.now.position table) same))
     (beside_after table c.args.heap.now c.requires places.placed c.place_all.new.heap places.places c.args.part.now.position)
+
+pub returns-in-Ok-clause-past : goal.returns-in-Ok-clause-past
+returns-in-Ok-clause-past g c =
+    let keyspace = c.args.keyspace.now in
+    let past = g.K.Keyspace.past keyspace in
+    let same = given g (goal.at.returns-in-Ok-clause-past g c).After-deref in
+    let places = c.in_ok-place_all.ensures.ok in (
+      places.placed,
+      places.after_is,
+      c.in-Ok.ensures.past ∙ ap (λ changes. past ++ kept (g.K.Keyspace.pins keyspace) c.args.part.now.position changes (g.K.Keyspace.table keyspace)) same,
+    )

@@ -1,11 +1,13 @@
-use Rattle.std.proofs.Common.{not, ◌==◌, sym, ap, subst, ◌∙◌}
+use Rattle.std.proofs.Common.{not, ◌≤◌, ◌==◌, sym, ap, subst, ◌∙◌}
 use Rattle.std.specs.List.Sorted.{IsStrictlySortedBy}
 use Rattle.std.specs.Ordering.{nat_cmp}
 use Rattle.kv_types.specs.declared.place.EntryNo.{EntryNo}
 use Rattle.heap_layout.specs.declared.entry.Entry.{Entry}
 use Rattle.mv_keyspace.specs.Loading.{AreCompatible, HasRows}
+use Rattle.mv_keyspace.specs.Versions.{last_among}
 use Rattle.placing.specs.Read.{ended_read}
 use Rattle.placing.specs.Rebuilt.{AreEndedOf, CanClaimAll, ClaimsAll}
+use Rattle.placing.proofs.LastLemmas.{last-read}
 use Rattle.placing.proofs.MemberLemmas.{chosen_rise}
 use Rattle.placing.proofs.RebuiltLemmas.{can_claim_all, ended_are, free_gaps, fresh_of, rebuilt_of, rows_compatible, table_of_versions}
 use Rattle.placing.proofs.rebuilding.rebuild.Goals as goal
@@ -48,3 +50,9 @@ pub returns-clause-rising : goal.returns-clause-rising
 returns-clause-rising g c = λ up.
     subst (IsStrictlySortedBy nat_cmp) (sym (c.in_ok-ended.ensures.ok ∙ ap ended_read c.deref-2.ensures.value))
     (chosen_rise (λ (read : EntryNo × Entry). not (read.1.end == 0)) (λ (read : EntryNo × Entry). read.0.0) c.args.counted.items up)
+
+pub returns-clause-last : goal.returns-clause-last
+returns-clause-last g c = λ contents layout_is is are low.
+    let first = g.K.Keyspace.last c.args.keyspace.now in
+    subst (λ position. position ≤ contents.current.position) (sym (c.load.ensures.last ∙ ap (last_among first) c.in_ok-live_rows.ensures.ok))
+    (last-read contents.current.position first c.args.counted.items low are.positions)

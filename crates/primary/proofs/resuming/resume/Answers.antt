@@ -1,3 +1,4 @@
+use Rattle.std.proofs.Common.{◌≤◌, subst}
 use Rattle.std.proofs.lemmas.Result.{IfOk-weaker}
 use Rattle.primary.proofs.resuming.resume.Goals as goal
 
@@ -22,3 +23,8 @@ returns-clause-opening g c =
     let made = c.in_ok-keyspace.ensures in
     IfOk-weaker c.start.result _ _
     (λ resumed told. (told.0, λ contents layout lines are. let rebuilt = made.rebuilt contents layout lines are in told.1 contents rebuilt.0 (made.ids contents are))) c.start.ensures.opening
+
+pub start-requires-clause-last : goal.start-requires-clause-last
+start-requires-clause-last g c =
+    let read = c.requires.read in
+    subst (λ position. g.K.Keyspace.last c.in_ok-keyspace.keyspace ≤ position) read.3 (c.in_ok-keyspace.ensures.last read.0 read.1 read.2 read.4)

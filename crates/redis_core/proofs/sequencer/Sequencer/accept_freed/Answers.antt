@@ -23,6 +23,6 @@ returns-clause-stands g c = λ contents rest others stands expects.
     let room = c.accept.new.self.room in
     let takes : TakesBack old c.args.entries.now c.args.extents.now _ = record {
       room = subst (λ (s : Sequencing). GivesAll s.room c.args.entries.now c.args.extents.now room) c.self.view_is c.accept.ensures.room;
-      after = rw (c.accept.ensures.table, c.accept.ensures.sessions) (ap (λ (s : Sequencing). record s { room = room }) c.self.view_is);
+      after = rw (c.accept.ensures.table, c.accept.ensures.sessions, c.accept.ensures.copy) (ap (λ (s : Sequencing). record s { room = room }) c.self.view_is);
     } in
     IsAheadOf-back old contents c.args.entries.now rest c.args.extents.now others stands expects _ takes

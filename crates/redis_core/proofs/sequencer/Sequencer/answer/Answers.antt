@@ -31,6 +31,7 @@ returns-then-is_last-clause-answers g c =
       ended = refl;
       newest = refl;
       sessions = c.close.ensures.sessions;
+      copy = c.close.ensures.copy;
     })
 
 pub returns-then-is_last-clause-stands : goal.returns-then-is_last-clause-stands

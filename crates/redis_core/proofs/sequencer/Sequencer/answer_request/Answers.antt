@@ -17,6 +17,7 @@ returns-in-Err g c =
       ended = refl;
       newest = refl;
       sessions = moves.sessions;
+      copy = moves.copy;
     })
 
 pub returns-in-Ok : goal.returns-in-Ok
@@ -33,4 +34,5 @@ returns-in-Ok g c =
       ended = refl;
       newest = refl;
       sessions = moves.sessions;
+      copy = moves.copy;
     } c.act.ensures.acts c.act.ensures.memory)

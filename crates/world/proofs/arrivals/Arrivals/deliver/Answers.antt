@@ -4,7 +4,7 @@ use Rattle.world.proofs.Words.{err_from_is_err_and, ltb-true}
 use Rattle.std.specs.Prelude.{length}
 use Rattle.world.specs.Link.{AreFramesSent}
 use Rattle.world.specs.Standby.{arrived_with}
-use Rattle.world.proofs.FrameLemmas.{found-there, ack_is_no_frame}
+use Rattle.world.proofs.FrameLemmas.{found-there, reads_as_frame}
 use Rattle.world.proofs.ArrivalLemmas.{delivers, delivers_none, frame_may}
 use Rattle.world.proofs.arrivals.Arrivals.deliver.Goals as goal
 
@@ -30,7 +30,7 @@ returns-in_default-2-clause-cause c = λ epoch w are.
     let within = ltb-true c.args.frame (length frames) (sym c.in-Some.ensures.lookup.0) in
     let found = found-there frames frames c.args.frame bytes refl c.in-Some.ensures.lookup.0 c.in-Some.ensures.lookup.1 in
     let of = frame_may epoch frames w c.args.frame bytes within found are in
-    absurd (ack_is_no_frame c.in_default-2.field-0 of.0 (ap sent_of (sym c.in_default-2.is) ∙ c.in_ok-frame.ensures.read (sent_of_frame of.0) of.1 (c.as_slice.ensures.value ∙ of.2)))
+    absurd (reads_as_frame _ of.0 (c.in_ok-frame.ensures.read (sent_of_frame of.0) of.1 (c.as_slice.ensures.value ∙ of.2)) c.in_default-2.not-Group)
 
 pub returns-clause-goes : goal.returns-clause-goes
 returns-clause-goes c = λ epoch w acknowledgements stands are own.

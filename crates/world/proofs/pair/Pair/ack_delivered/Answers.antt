@@ -2,7 +2,7 @@ use Rattle.std.proofs.Common.{ℕ, ◌≤◌, ◌<◌, List, length, Err, Vec, G
 use Rattle.world.specs.Words.{Acknowledged, FrameFault, sent_of}
 use Rattle.world.proofs.Words.{err_from_is_err_and, ltb-true}
 use Rattle.standby_stream.specs.declared.outgoing.Outgoing.{Outgoing}
-use Rattle.world.proofs.FrameLemmas.{found-there, frame_is_no_ack}
+use Rattle.world.proofs.FrameLemmas.{found-there, reads_as_ack}
 use Rattle.world.proofs.PairLink.{ack-does, ack-cut, no-ack-does}
 use Rattle.world.proofs.pair.Pair.ack_delivered.Goals as goal
 
@@ -24,8 +24,8 @@ returns-in_default-2-clause-does g c =
     let within = subst (λ (acks : List (Vec ℕ Global)). c.args.ack < length acks) c.deref.ensures.value (ltb-true c.args.ack (length c.deref.result.now) (sym c.in-Some.ensures.lookup.0)) in
     let found = found-there c.deref.result.now _ c.args.ack bytes c.deref.ensures.value c.in-Some.ensures.lookup.0 c.in-Some.ensures.lookup.1 in
     ack-cut _ c.args.ack bytes (Err FrameFault) FrameFault refl within found
-    (λ told is. absurd (frame_is_no_ack c.in_default-2.field-0 told.epoch told.position
-    (ap sent_of (sym c.in_default-2.is) ∙ c.in_ok-ack.ensures.read (Acknowledged told.epoch told.position) is.may (c.as_slice.ensures.value ∙ is.text))))
+    (λ told is. absurd (reads_as_ack _ told.epoch told.position
+    (c.in_ok-ack.ensures.read (Acknowledged told.epoch told.position) is.may (c.as_slice.ensures.value ∙ is.text)) c.in_default-2.not-Ack))
 
 pub returns-clause-does : goal.returns-clause-does
 returns-clause-does g c =

@@ -1,4 +1,4 @@
-use Rattle.std.proofs.Common.{refl, ◌∙◌, sym}
+use Rattle.std.proofs.Common.{rules, refl, ◌∙◌, sym}
 use Rattle.world.proofs.PairCrash.{primary-crashed, primary-crashes}
 use Rattle.world.proofs.KeptLemmas.{leaves-picked}
 use Rattle.world.proofs.pair.Pair.crash_running_primary.Goals as goal
@@ -11,14 +11,7 @@ returns-clause-does g c = λ after.
     let crashed = c.crash.ensures in
     let ended = c.crash-2.ensures in
     primary-crashes _ _ _ after c.args.picks.now c.position-position.result (sym c.is_running.ensures ∙ c.if-not-is_running.false) c.position-position.ensures
-    (record {
-      sized = g.met.E.Durable.sized c.args.self.now.primary.back.committer.engine;
-      settled = crashed.settled;
-      image = crashed.image;
-      lines_are = crashed.lines;
-      failures = crashed.failures;
-      moments = crashed.moments;
-    })
+    (search (rules, g.met.E.Durable.sized c.args.self.now.primary.back.committer.engine, crashed))
     (λ w stand. ended.goes w.primary.connections w.primary.calls stand) ended.unseated ended.calls
 
 pub returns-clause-leaves : goal.returns-clause-leaves

@@ -1,4 +1,4 @@
-use Rattle.std.proofs.Common.{ap, if◌then◌else◌, refl, ◌∙◌, sym, subst}
+use Rattle.std.proofs.Common.{rules, ap, if◌then◌else◌, refl, ◌∙◌, sym, subst}
 use Rattle.world.specs.Words.{Between, State}
 use Rattle.world.specs.Effect.{LeavesOf}
 use Rattle.world.proofs.LivesLemmas.{not-over}
@@ -18,14 +18,7 @@ returns-clause-does g c = λ history after.
     standby-crashes _ (arrived_with c.crash-2.new.self history.acknowledgements)
     (node_at (E.device standby.engine) (E.contents standby.engine) (E.is_faulted standby.engine) (g.K.Keyspace.table standby.keyspace) standby.heap standby.ended.items)
     after c.args.picks.now (sym c.is_running.ensures ∙ c.if-not-is_running.false)
-    (record {
-      sized = g.met.E.Durable.sized c.args.self.now.standby.engine;
-      settled = crashed.settled;
-      image = crashed.image;
-      lines_are = crashed.lines;
-      failures = crashed.failures;
-      moments = crashed.moments;
-    })
+    (search (rules, g.met.E.Durable.sized c.args.self.now.standby.engine, crashed))
     c.crash-2.ensures refl
 
 pub returns-clause-leaves : goal.returns-clause-leaves

@@ -1,4 +1,4 @@
-use Rattle.std.proofs.Common.{map, subst}
+use Rattle.std.proofs.Common.{rules, map, subst}
 use Rattle.world.specs.Words.{cut_at, left, SessionsRefine}
 use Rattle.world.proofs.PairStopped.{stopped-cut}
 use Rattle.world.proofs.KeptLemmas.{leaves-picked}
@@ -10,14 +10,7 @@ returns g c = λ after.
     let crashed = c.crash.ensures in
     let ended = c.crash-2.ensures in
     stopped-cut _ after c.args.picks.now _ _ c.requires.stopped
-    (record {
-      sized = g.met.E.Durable.sized c.args.self.now.primary.back.committer.engine;
-      settled = crashed.settled;
-      image = crashed.image;
-      lines_are = crashed.lines;
-      failures = crashed.failures;
-      moments = crashed.moments;
-    })
+    (search (rules, g.met.E.Durable.sized c.args.self.now.primary.back.committer.engine, crashed))
     (λ r many few undamaged machines list stand.
     subst (λ n. SessionsRefine c.crash-2.new.self c.crash-2.new.transcript (map left machines) (cut_at list n)) (c.image_position-position.ensures r many few undamaged) (ended.goes machines list stand))
     ended.unseated

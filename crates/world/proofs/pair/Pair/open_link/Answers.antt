@@ -15,7 +15,7 @@ returns-in_err-open_at-clause-does g c =
     open-refused _ _ c.ack-ack.result c.from_residual.result exit.0 c.requires.follows c.ack-ack.ensures exit.1
     (λ level known.
     let at = sym c.position.ensures in
-    let no = (told.level (subst (λ p. c.args.self.now.outgoing.opening.position ≤ p) at level) (subst (λ p. c.args.self.now.outgoing.link.known ≤ p) at known)).0 in cc) (λ below served. exit.2 ∙ told.cause below (subst (IsServed c.args.self.now.outgoing.opening.floor) (sym c.position.ensures) served))
+    exit.2 ∙ told.level_cause (subst (λ p. c.args.self.now.outgoing.opening.position ≤ p) at level) (subst (λ p. c.args.self.now.outgoing.link.known ≤ p) at known)) (λ below served. exit.2 ∙ told.cause below (subst (IsServed c.args.self.now.outgoing.opening.floor) (sym c.position.ensures) served))
 
 pub returns-in_err-acknowledge-clause-does : goal.returns-in_err-acknowledge-clause-does
 returns-in_err-acknowledge-clause-does g c =
@@ -29,4 +29,4 @@ returns-clause-does g c =
     let pair = c.args.self.now in
     let outgoing = c.open_at.new.self in
     open-does _ (arrived_with pair.arrivals c.acknowledge.new.acknowledgements) outgoing.link outgoing.opening c.ack-ack.result c.requires.follows c.ack-ack.ensures (c.in_ok-acknowledge.ensures.stands pair.arrivals)
-    (subst (λ (position : ℕ). Reopens pair.outgoing.link pair.outgoing.opening position outgoing.link) c.position.ensures (record { behind = told.behind; level = λ level known. (told.level level known).1 })) told.opening
+    (subst (λ (position : ℕ). Reopens pair.outgoing.link pair.outgoing.opening position outgoing.link) c.position.ensures (record { behind = told.behind; level = λ level known none. (told.level level known none).1 })) told.opening

@@ -1,4 +1,4 @@
-use Rattle.std.proofs.Common.{refl, ◌∙◌}
+use Rattle.std.proofs.Common.{rules, refl, ◌∙◌}
 use Rattle.world.proofs.Words.{err_from_is_err_and}
 use Rattle.world.proofs.PairLemmas.{turn-does}
 use Rattle.world.proofs.pair.Pair.turn.Goals as goal
@@ -8,12 +8,7 @@ returns-in_err-make_room-clause-turns g c =
     let exit = err_from_is_err_and c.from_residual.result c.from_residual.ensures.1 in
     rw exit.1 (record {
       roomy = c.make_room.new.self;
-      is_roomier = record {
-        calls = c.make_room.ensures.calls;
-        released = c.make_room.ensures.released;
-        stands = c.make_room.ensures.stands;
-        enough = c.make_room.ensures.enough;
-      };
+      is_roomier = search (rules, c.make_room.ensures);
       does = tt;
       refused = (exit.2 ∙ c.in_err-make_room.ensures.cause, c.in_err-make_room.ensures.none, refl);
     })
@@ -21,12 +16,7 @@ returns-in_err-make_room-clause-turns g c =
 pub returns-clause-turns : goal.returns-clause-turns
 returns-clause-turns g c = record {
   roomy = c.make_room.new.self;
-  is_roomier = record {
-    calls = c.make_room.ensures.calls;
-    released = c.make_room.ensures.released;
-    stands = c.make_room.ensures.stands;
-    enough = c.make_room.ensures.enough;
-  };
+  is_roomier = search (rules, c.make_room.ensures);
   does = turn-does _ _ c.turn.new.front.sequencer c.args.c c.turn.result c.turn.ensures.turns c.turn.ensures.seats c.turn.ensures.stands c.turn.ensures.calls;
   refused = tt;
 }

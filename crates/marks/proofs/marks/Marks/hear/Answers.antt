@@ -1,6 +1,0 @@
-use Rattle.std.proofs.Common.{rules}
-use Rattle.marks.proofs.Keeps.{hears}
-use Rattle.marks.proofs.marks.Marks.hear.Goals as goal
-
-pub store-requires : goal.store-requires
-store-requires c = (search rules, search rules, hears _ _ _ _)
