@@ -44,9 +44,11 @@ class Replacing(PairCases):
         self.changes += len(values)
 
     def lose_standby(self):
-        """The standby is killed, and its image is gone."""
+        """The standby is killed, and its image is gone. Returns the position at which that stood: nothing above it is answered without another standby."""
         self.nodes.standby.end()
+        position = self.nodes.standby.inspect()["position"]
         self.nodes.standby.image.unlink()
+        return position
 
     def newcomer(self, epoch=None, lines=None, port=None):
         """A newcomer over a new image, which does not run yet, at the standby's address or at this port."""

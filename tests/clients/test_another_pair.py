@@ -375,6 +375,19 @@ class TakingOver(StandingBy):
                 self.assertEqual((image.record.position, sorted(image.map.values()), image.pair), (3, [b"0", b"1", b"2"], NUMBER))
         common.tell("standbys that were killed behind their first frame", counted)
 
+    def failed(self, folder, library, number, frame):
+        """The image of a node whose sync of this number failed behind the first frame, and what it asked of it. (One to which nothing came for a second has
+        cleared a gap before, whose syncs count too: another takes its place.)"""
+        wanted = text(Acknowledgement(1, 0)) + text(Acknowledgement(1, 1))
+        while True:
+            _, path = self.new(folder)
+            noting, began = Noting(library, path, fails=number), time.monotonic()
+            with Node(path, env=os.environ | noting.settings) as node:
+                found = node.exchange(text(frame), greeting=Greeting(NUMBER))
+                if found == wanted or time.monotonic() - began < 0.9:
+                    self.assertEqual((found, node.ended()), (wanted, (FAILED, b"", refusal(1))))
+                    return path, noting
+
     @unittest.skipUnless(held_syncs.HAS_COMPILER, "there is no gcc")
     def test_each_sync_of_it_fails(self):
         """The node ends, and whatever is left of the words that were not durable, the image holds the frame; started again it has the number soon."""
@@ -392,11 +405,7 @@ class TakingOver(StandingBy):
             self.assertGreaterEqual(syncs, 10)
             for number in range(7, syncs - 2):
                 with self.case("sync", number=number):
-                    _, path = self.new(folder)
-                    noting = Noting(library, path, fails=number)
-                    with Node(path, env=os.environ | noting.settings) as node:
-                        self.assertEqual(node.exchange(text(frames[0]), greeting=Greeting(NUMBER)), text(Acknowledgement(1, 0)) + text(Acknowledgement(1, 1)))
-                        self.assertEqual(node.ended(), (FAILED, b"", refusal(1)))
+                    path, noting = self.failed(folder, library, number, frames[0])
                     left, durable, drawn = path.read_bytes(), noting.synced.read_bytes(), random.Random(number)
                     for data in (left, durable, mixed(left, durable, drawn), mixed(left, durable, drawn)):
                         path.write_bytes(data)

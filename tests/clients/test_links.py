@@ -67,11 +67,16 @@ class Links(ServingCases):
     def test_a_connection_that_is_over_ends_no_link(self):
         """Whoever only looks whether somebody listens disturbs no link that is silent."""
         self.assert_serves(1)
+        longest = 0
         for _ in range(3):
+            began = time.monotonic()
             with Client(self.nodes.link.number):
                 pass
+            longest = max(longest, time.monotonic() - began)
             time.sleep(1.5)
         self.assert_serves()
+        # (beside one that was not over within a second, since this process was held up, a link may be left)
+        self.assert_in_time(longest, 0.5)
         self.assertNotIn(b"lost", self.nodes.primary.errors.read_bytes())
 
     def test_a_standby_that_was_formatted_since(self):

@@ -6,6 +6,7 @@ import pathlib
 import random
 import time
 
+import common
 import worked_cases as worked
 from pair import PATIENCE, wait_until
 from plain_image import MOST_VALUE_BYTES
@@ -182,7 +183,8 @@ class SlowLinks(Large):
         self.between = CuttingLink(self.nodes.link.number, random.Random("slow links"), pieces)
         self.addCleanup(self.between.close)
         put_between(self.nodes, self.between)
-        self.client = self.nodes.client()
+        # (which waits for as long as all of it takes)
+        self.client = self.nodes.client(self.MOST_SECONDS)
 
     def test_in_single_bytes(self):
         self.start_behind(1)
@@ -322,8 +324,11 @@ class Memory(Large):
                 self.assertLessEqual(last - first, most)
 
     def rest(self):
-        """Until what ended is freed."""
-        time.sleep(1.5)
+        """Until what ended is freed: both nodes have taken as much for a while."""
+        found, end = None, time.monotonic() + PATIENCE
+        while found != (found := self.both()):
+            self.assert_in_time(time.monotonic(), end)
+            time.sleep(1.5 * common.BUSY)
 
     def start_with_connections(self, count):
         """A pair with as many connections, each of which has asked for something, and what both nodes take then."""
