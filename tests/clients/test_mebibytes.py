@@ -33,6 +33,8 @@ COUNT = 20
 SPARE_BYTES = 8 * 2**20
 # A connection has rings and blocks, and what it says it will send takes 64 KiB before it comes.
 CONNECTION_BYTES = 131_072
+# By how much the memory of a node that rests may differ from one look to the next.
+REST_BYTES = 65_536
 # What the first long value costs once: the places of lists that are made for good.
 ONCE_BYTES = 384 * 1_024
 # The length of a request's last word, but for its last digit.
@@ -324,11 +326,12 @@ class Memory(Large):
                 self.assertLessEqual(last - first, most)
 
     def rest(self):
-        """Until what ended is freed: both nodes have taken as much for a while."""
-        found, end = None, time.monotonic() + PATIENCE
-        while found != (found := self.both()):
+        """Until what ended is freed: both nodes have taken about as much for a while."""
+        end, before, found = time.monotonic() + PATIENCE, [0, 0], self.both()
+        while max(abs(last - first) for first, last in zip(before, found)) > REST_BYTES:
             self.assert_in_time(time.monotonic(), end)
             time.sleep(1.5 * common.BUSY)
+            before, found = found, self.both()
 
     def start_with_connections(self, count):
         """A pair with as many connections, each of which has asked for something, and what both nodes take then."""
