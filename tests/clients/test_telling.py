@@ -266,6 +266,9 @@ class Filling(ServingCases):
     def setUp(self):
         super().setUp()
         self.small = self.pair(lines=4_096)
+        self.client = self.small.client()
+
+    def ask_for_reports(self):
         for node in (self.small.primary, self.small.standby):
             node.words += ["--report", "1"]
         self.small.restart(self.small.standby, self.small.primary)
@@ -309,6 +312,7 @@ class Filling(ServingCases):
                 self.assertLessEqual(of - taken, of // (10 if share == 9 else 100))
 
     def test_versions(self):
+        self.ask_for_reports()
         self.keep(0, 444)
         wait_until(lambda: self.is_seen(444, 444), "a look at what is kept")
         self.wait_for()
