@@ -1,11 +1,11 @@
 """A pair whose standby is lost and replaced by a newcomer, with no restart of the primary: what the tests of full copies share."""
 
+from between import put_between
 from copy_link import CopyLink
 from pair import Node, PairCases, inspected, number_in, run, wait_until
 from plain_keyspace import Put
 from plain_replies import OK
 from plain_wire import MOST_VALUE
-from test_cut_links import put_between
 
 # An image that has room for values of a mebibyte, of which each takes 16,385 lines.
 LINES = 2**17

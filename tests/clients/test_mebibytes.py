@@ -8,6 +8,7 @@ import time
 
 import common
 import worked_cases as worked
+from between import put_between
 from pair import PATIENCE, wait_until
 from plain_image import MOST_VALUE_BYTES
 from plain_keyspace import Put
@@ -15,7 +16,7 @@ from plain_replies import LONG_STRING, OK, array, bulk, error, integer
 from plain_wire import Acknowledgement, Group, text
 from spelling import spell
 from standby_node import Node, StandingBy
-from test_cut_links import CuttingLink, put_between
+from test_cut_links import CuttingLink
 from test_images import ROLES
 from test_large import Large, position_in
 

@@ -81,8 +81,21 @@ def standby_reports(node):
 
 
 class Waiting(ServingCases):
+    # How many lines there were before a standby was frozen: on a busy machine a reply may have waited for one that was not.
+    waits = answers = 0
+
     def told(self):
-        return [seconds for (seconds,) in found_in(self.nodes.primary, WAITING)]
+        return [seconds for (seconds,) in found_in(self.nodes.primary, WAITING)][self.waits:]
+
+    def told_of_answers(self):
+        return found_in(self.nodes.primary, ANSWERED)[self.answers:]
+
+    def freeze_behind(self, client):
+        """Has a write answered, waits for the looks that tell of that, and freezes the standby."""
+        self.assertEqual(client.ask("SET", "a", "1"), OK)
+        time.sleep(3)
+        self.waits, self.answers = len(self.told()), len(self.told_of_answers())
+        self.nodes.standby.freeze()
 
     def assert_ever_more_seldom(self, told):
         """Each was due after the one before: a look that came late may have passed over some."""
@@ -91,8 +104,7 @@ class Waiting(ServingCases):
 
     def test_a_frozen_standby(self):
         client = self.nodes.client()
-        self.assertEqual(client.ask("SET", "a", "1"), OK)
-        self.nodes.standby.freeze()
+        self.freeze_behind(client)
         began = time.monotonic()
         client.send(spell("SET", "a", "2"))
         # (where looks come late some are passed over)
@@ -103,10 +115,10 @@ class Waiting(ServingCases):
         self.assertLessEqual(told[-1], waited)
         self.assert_in_time(waited, told[-1] + SOON)
         self.assert_ever_more_seldom(told)
-        self.assertEqual(found_in(self.nodes.primary, ANSWERED), [])
+        self.assertEqual(self.told_of_answers(), [])
         self.nodes.standby.thaw()
         self.assertEqual(client.reply(), OK)
-        ((after,),) = wait_until(lambda: found_in(self.nodes.primary, ANSWERED), "that the standby has answered")
+        ((after,),) = wait_until(self.told_of_answers, "that the standby has answered")
         self.assertGreaterEqual(after, told[-1])
         # a second wait is told from its beginning
         self.nodes.standby.freeze()
@@ -119,13 +131,13 @@ class Waiting(ServingCases):
         """Neither of a standby that is frozen while nobody asks for anything new, nor of one that is away when the primary starts; of the first reply that
         waits then it is told."""
         client = self.nodes.client()
-        self.assertEqual(client.ask("SET", "a", "1"), OK)
-        self.nodes.standby.freeze()
+        self.freeze_behind(client)
         for _ in range(4):
             time.sleep(1)
             self.assertEqual(client.ask("GET", "a"), bulk(b"1"))
         self.assertEqual(self.told(), [])
         self.nodes.end()
+        self.waits = self.answers = 0
         self.nodes.primary.start()
         wait_until(self.nodes.primary.is_listening, "a primary that listens")
         time.sleep(4)
@@ -135,7 +147,7 @@ class Waiting(ServingCases):
         wait_until(self.told, "a wait that is told")
         self.nodes.standby.start()
         self.assertEqual(client.reply(), bulk(b"1"))
-        wait_until(lambda: found_in(self.nodes.primary, ANSWERED), "that the standby has answered")
+        wait_until(self.told_of_answers, "that the standby has answered")
 
 
 class Taking(ServingCases):
