@@ -75,6 +75,9 @@ class Failing(NotedCases):
         self.assertEqual(node.wait(), 1)
         # (another thread may tell of the link in the middle of the last line, which is not written at once)
         told = re.sub(rb"(?<!\n)link (?:open )?to [^\n]*\n", b"", node.errors.read_bytes())
+        if not common.without_news(told):
+            # (as it ends it waits a second for them to be written)
+            raise common.TakesTooLong(f"the last words of a {node.role}")
         self.assertEqual(common.without_news(told), FAULT)
         # another thread tells of the link whenever it opens or is lost
         own = b"".join(line for line in told.splitlines(keepends=True) if not line.startswith(b"link "))
