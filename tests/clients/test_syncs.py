@@ -244,12 +244,9 @@ class PowerCuts(NotedCases):
         self.assertEqual(node.inspect()["role"], "primary")
 
 
-# How often a lone SET is tried: on a busy machine what one replaced may be freed with a later one.
-TURNS = 30
-
-
 class LoneSets(NotedCases):
-    """What a lone SET asks of the files is what bin/bench-pair says that it costs at least. It catches a sync more, and figures beside a bound that is none."""
+    """What a lone SET asks of the files is what bin/bench-pair says that it costs at least. It catches a sync more, and figures beside a bound that is none. On a busy
+    machine what one replaced may be freed with a later one, so more are tried until one costs that."""
 
     def asked(self, node):
         """How often a node wrote so many bytes, and synced."""
@@ -273,17 +270,15 @@ class LoneSets(NotedCases):
         wanted = {node: counted(words) for node, words in both.items()}
         seen = dict.fromkeys(both, False)
         with nodes.client() as client:
-            before = None
-            for turn in range(TURNS):
-                self.assertEqual(client.ask("SET", "a", f"{turn}"), OK)
+            before, end = None, time.monotonic() + PATIENCE
+            while not all(seen.values()) and time.monotonic() < end:
+                self.assertEqual(client.ask("SET", "a", "1"), OK)
                 # (the primary frees what it replaced a little later; the standby does with the next, or clears gaps, where nothing comes for a second)
-                time.sleep(0.5 if turn < TURNS // 2 else 0.8)
+                time.sleep(0.5)
                 found = {node: self.asked(node) for node in both}
                 if before:
                     seen = {node: was or found[node] - before[node] == wanted[node] for node, was in seen.items()}
                 before = found
-                if all(seen.values()):
-                    break
         for node in both:
             with self.case("node", role=node.role, has_journal=has_journal):
                 self.assertTrue(seen[node], wanted[node])
