@@ -70,7 +70,7 @@ pub page-more : (bytes : ℕ) (rows more : Table) → bytes < size_of rows → p
 page-more bytes [] more lt = absurd (omega (arith, lt))
 page-more bytes (row ∷ rows) more lt = ap (λ t. cond (nat_le (put_size row) bytes) t (row ∷ [])) (front-more bytes (row ∷ rows) more lt)
 
-size-front : (room : ℕ) (rows : Table) → size_of (front room rows) ≤ room
+pub size-front : (room : ℕ) (rows : Table) → size_of (front room rows) ≤ room
 size-front room [] = omega arith
 size-front room (row ∷ rows) =
     elim (nat_le (put_size row) room) as (λ b. nat_le (put_size row) room ≡ b → size_of (cond b (row ∷ front (room - put_size row) rows) []) ≤ room) [

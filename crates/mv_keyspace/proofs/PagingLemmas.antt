@@ -204,10 +204,10 @@ up_to-split id (row ∷ table) sorted =
       | false ↦ λ e. ap₂ (λ (before behind : Table). before ++ row ∷ behind) (sym (none-up_to id row.0 table e parts.0)) (sym (all-behind id row.0 table e parts.0))
     ] refl
 
-up_to-itself : (id : RecordId) → is_up_to id id ≡ true
+pub up_to-itself : (id : RecordId) → is_up_to id id ≡ true
 up_to-itself id = grind (arith, record_itself id, record_between id id)
 
-not_le : (o p : Ordering) → o ≡ ordering_reverse p → is_lt p ≡ true → is_le o ≡ false
+pub not_le : (o p : Ordering) → o ≡ ordering_reverse p → is_lt p ≡ true → is_le o ≡ false
 not_le o p e lt = grind arith
 
 not-up_to : (id other : RecordId) → is_lt (record_cmp id other) ≡ true → is_up_to id other ≡ false
@@ -235,7 +235,7 @@ up_to-front (row ∷ before) last rest sorted =
     ap (λ b. cond b (row ∷ where_key record_cmp (is_up_to last.0) all) (where_key record_cmp (is_up_to last.0) all)) (earlier-is_up_to last.0 row.0 last.0 (below-member row.0 before last rest parts.0) (up_to-itself last.0))
     ∙ ap (λ t. row ∷ t) (up_to-front before last rest parts.1)
 
-below-front : (id : RecordId) (rows more : Table) → IsTrue (below_all record_cmp id (rows ++ more)) → IsTrue (below_all record_cmp id rows)
+pub below-front : (id : RecordId) (rows more : Table) → IsTrue (below_all record_cmp id (rows ++ more)) → IsTrue (below_all record_cmp id rows)
 below-front id [] more below = refl
 below-front id (row ∷ rows) more below =
     let parts = and_parts (is_lt (record_cmp id row.0)) (below_all record_cmp id (rows ++ more)) below in
