@@ -164,12 +164,12 @@ class Numbers(Pairs):
         self.nodes.end()
         self.assertEqual([found["pair"] for found in self.nodes.inspect()], 2 * [number])
 
-    def test_one_that_fills_again_from_a_delta(self):
-        """A new standby of a primary that holds something: its first frame is the delta."""
+    def test_one_that_fills_again_from_a_copy(self):
+        """A newcomer of a primary that holds something: its first frame is a part of the copy."""
         self.assertEqual([self.ask("SET", f"k{at}", "1") for at in range(5)], 5 * [OK])
         number = self.settle()
         self.nodes.end()
-        self.nodes.standby.format(LINES)
+        self.nodes.standby.format(LINES, newcomer_of=1)
         self.assertEqual(self.numbers(), [number, 0])
         for node in (self.nodes.standby, self.nodes.primary):
             self.start(node)

@@ -101,13 +101,11 @@ class JoinedFrames(StandingBy):
                 self.assert_answers(node.exchange(text(first) + text(second)), 1)
                 self.assert_map(path, 1, [first])
 
-    def test_at_position_0_a_higher_epoch(self):
-        """With both frames, and not with the second alone."""
+    def test_of_another_epoch(self):
+        """Neither of two is taken, also where nothing was taken yet."""
         with self.folder() as folder:
             path = self.made(folder, Writer(LINES, STANDBY).words)
             frames = [frame(0, 1, b"a", epoch=3), frame(1, 2, b"b", epoch=3)]
             with Node(path) as node:
-                found = node.exchange(b"".join(map(text, frames)))
-                self.assertEqual(found[:ACK_BYTES], text(Acknowledgement(1, 0)))
-                self.assertIn(found[ACK_BYTES:], [b"".join(text(Acknowledgement(3, at)) for at in ats) for ats in ([1, 2], [2])])
-                self.assert_map(path, 2, frames)
+                self.assertEqual(node.exchange(b"".join(map(text, frames))), text(Acknowledgement(1, 0)))
+                self.assert_map(path, 0, [])

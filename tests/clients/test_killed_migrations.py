@@ -157,7 +157,7 @@ class Pairs(PairCases):
 
     def test_a_standby_that_is_behind(self):
         """It is refused by both: what was removed and replaced meanwhile had to leave the last entries of the primary's image, and a cut of the power may leave
-        a version in both of its places. A new one gets all."""
+        a version in both of its places. A newcomer gets all."""
         primary, standby = self.former(FEW_LINES, behind=1)
         wanted = held(FEW_LINES, primary.words)[2].map
         self.assertTrue({(b"c",), (b"d",)} <= held(FEW_LINES, standby.words)[2].map.keys() - wanted.keys())
@@ -170,7 +170,7 @@ class Pairs(PairCases):
                     wait_until(lambda told=node: b"refusal 12: position gap" in told.errors.read_bytes(), f"the word of the {node.role}")
                 nodes.standby.end()
                 nodes.standby.image.unlink()
-                nodes.standby.format(FEW_LINES)
+                nodes.standby.format(FEW_LINES, newcomer_of=nodes.primary.read_image().record.epoch)
                 nodes.restart(nodes.standby, nodes.primary)
                 nodes.wait()
                 self.assert_holds(nodes, wanted)

@@ -3,7 +3,7 @@
 import contextlib
 import time
 
-from pair import LINES, Client, ServingCases, give_number, greet, number_in
+from pair import LINES, Client, ServingCases, give_number, greet, number_in, wait_until
 from plain_replies import array, bulk
 from plain_wire import ACK_BYTES, GREETING_BYTES, Acknowledgement, Greeting, text
 from spelling import spell
@@ -75,7 +75,7 @@ class Links(ServingCases):
         self.assertNotIn(b"lost", self.nodes.primary.errors.read_bytes())
 
     def test_a_standby_that_was_formatted_since(self):
-        """It lacks what the primary no longer has apart, so it acknowledges nothing, until the primary opens its image again."""
+        """It lacks what the primary no longer has apart, so it acknowledges nothing, also once the primary opens its image again. A newcomer takes its place."""
         self.assert_serves(5)
         self.nodes.standby.end()
         self.nodes.standby.format(LINES)
@@ -84,9 +84,14 @@ class Links(ServingCases):
         client.send(SET_A + GET_A)
         self.assertTrue(client.is_silent(1.5))
         self.nodes.restart(self.nodes.primary)
-        self.nodes.wait()
-        with Client(self.nodes.door.number) as again:
-            self.assertEqual(again.ask("MGET", "other", "a"), array([bulk(b"4"), ONE]))
+        wait_until(self.nodes.primary.is_listening, "a primary that listens")
+        client = self.nodes.client()
+        client.send(spell("MGET", "other", "a"))
+        self.assertTrue(client.is_silent(1.5))
+        self.nodes.standby.end()
+        self.nodes.standby.format(LINES, newcomer_of=1)
+        self.nodes.standby.start()
+        self.assertEqual(client.reply(), array([bulk(b"4"), ONE]))
         first, second = self.assert_positions(self.nodes)
         self.assertEqual(first, second)
 

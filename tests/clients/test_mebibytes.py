@@ -257,9 +257,9 @@ class Away(Large):
         self.check_both()
 
     def test_a_new_one_gets_all(self):
-        """It holds nothing, and is sent one frame."""
+        """It holds nothing, and gets a copy."""
         self.set_while_away()
-        self.nodes.standby.format(LINES)
+        self.nodes.standby.format(LINES, newcomer_of=1)
         self.nodes.restart(self.nodes.primary)
         self.nodes.standby.start()
         self.nodes.wait()
@@ -362,14 +362,14 @@ class Memory(Large):
         self.rest()
         self.assert_grown(before, COUNT * CONNECTION_BYTES + SPARE_BYTES // 4)
 
-    def test_of_a_delta(self):
+    def test_of_a_copy(self):
         """Once it was sent and taken, both nodes take as much as when they are opened again."""
         self.start(lines=MANY_LINES)
         for number in range(COUNT):
             self.assertEqual(self.client.ask("SET", f"k{number}", value(number)), OK)
         self.nodes.end()
-        self.nodes.standby.format(MANY_LINES)
-        for turn in ("by a delta", "opened again"):
+        self.nodes.standby.format(MANY_LINES, newcomer_of=1)
+        for turn in ("by a copy", "opened again"):
             for node in (self.nodes.standby, self.nodes.primary):
                 node.start()
             self.nodes.wait()
@@ -377,9 +377,9 @@ class Memory(Large):
             self.assertEqual(self.client.ask("SET", "a", turn), OK)
             self.rest()
             found = self.both()
-            if turn == "by a delta":
-                by_delta = found
+            if turn == "by a copy":
+                by_copy = found
                 self.nodes.end()
-        for role, first, last in zip(("primary", "standby"), found, by_delta):
-            with self.case("bytes", role=role, opened=first, by_delta=last):
+        for role, first, last in zip(("primary", "standby"), found, by_copy):
+            with self.case("bytes", role=role, opened=first, by_copy=last):
                 self.assertLessEqual(last, first + SPARE_BYTES)

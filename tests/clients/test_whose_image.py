@@ -126,7 +126,7 @@ class OlderStandbys(Images):
         self.assertEqual([self.map_of(node) for node in nodes], wanted)
 
     def test_one_that_is_put_back(self):
-        """By a primary that runs and by one that is started again, each time; a new one takes its place."""
+        """By a primary that runs and by one that is started again, each time; a newcomer takes its place."""
         self.assertEqual(self.ask("SET", "gone", "yes"), OK)
         copy = self.backed_up("old.img")
         self.remove("gone")
@@ -141,7 +141,7 @@ class OlderStandbys(Images):
             self.assertEqual(self.asked("GET", "gone"), NO_ANSWER)
         self.nodes.standby.end()
         self.nodes.standby.image.unlink()
-        self.nodes.standby.format(self.nodes.lines)
+        self.nodes.standby.format(self.nodes.lines, newcomer_of=1)
         self.nodes.restart(self.nodes.standby, self.nodes.primary)
         self.nodes.wait()
         self.assertEqual(self.ask("GET", "gone"), NULL_BULK)

@@ -114,19 +114,19 @@ class Deltas(FaultyPair):
             client.ask_all([("SET", f"k{number}", "v") for number in range(6)])
             client.ask_all([("DEL", "k1"), ("SET", "k2", "x"), ("DEL", "k3"), ("HSET", "h", "f", "1")])
         count, _ = self.open_again(nodes, role, FOR_EVER)
-        for number in drawn(f"delta {role}", range(1, count + 2)):
-            with self.case("delta", role=role, number=number):
+        for number in drawn(f"copy {role}", range(1, count + 2)):
+            with self.case("copy", role=role, number=number):
                 _, refused = self.open_again(nodes, role, number)
                 found = "were made good" if refused else "came too late"
                 counted[found] = counted.get(found, 0) + 1
-        tell(f"a {role}, a delta, of {count} requests for memory", counted)
+        tell(f"a {role}, a copy, of {count} requests for memory", counted)
 
     def open_again(self, nodes, role, number):
         """Both nodes begin again, and the one of this role is refused this request for memory once it listens. Returns how many it made, and how many were
         refused."""
         faults = self.by_role[role]
         nodes.end()
-        nodes.standby.format(FEW_LINES + MORE_LINES)
+        nodes.standby.format(FEW_LINES + MORE_LINES, newcomer_of=1)
         # (one that takes the number over opens its image again, and ends without memory for that: test_failing_steps)
         give_number(nodes.standby.image, number_in(nodes.primary.image))
         for node in (nodes.primary, nodes.standby) if role == "primary" else (nodes.standby, nodes.primary):
