@@ -250,9 +250,10 @@ class Node:
         self.began = 0
         self.process = None
 
-    def format(self, lines):
-        """Makes the image a new one."""
-        run("format", "--image", str(self.image), "--lines", str(lines), "--role", self.role, "--journal", str(int(self.has_journal)))
+    def format(self, lines, newcomer_of=None):
+        """Makes the image a new one: its role's or, where an epoch is given, that of a newcomer of it."""
+        role = ["--role", self.role] if newcomer_of is None else ["--role", "newcomer", "--epoch", str(newcomer_of)]
+        run("format", "--image", str(self.image), "--lines", str(lines), *role, "--journal", str(int(self.has_journal)))
 
     def start(self, descriptors=DESCRIPTORS):
         """Starts the process over the image as it is."""
@@ -395,12 +396,12 @@ class Pair:
             node.start(self.descriptors)
 
     def fail_over(self):
-        """Kills both nodes, promotes the standby's image, and starts it as the primary, with a new standby behind it."""
+        """Kills both nodes, promotes the standby's image, and starts it as the primary, with a newcomer behind it."""
         self.end()
         image, new = self.standby.image, self.folder / f"after-{self.standby.image.name}"
-        run("promote", "--image", str(image), "--old-primary-stopped")
+        epoch = run("promote", "--image", str(image), "--old-primary-stopped").split()[-1]
         self.primary, self.standby = self.primary_over(image), self.standby_over(new)
-        self.standby.format(self.lines)
+        self.standby.format(self.lines, newcomer_of=int(epoch))
         for node in (self.standby, self.primary):
             node.start(self.descriptors)
         self.wait()

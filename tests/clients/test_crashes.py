@@ -127,7 +127,7 @@ class Crashes(PairCases):
         self.run_rounds(crash)
 
     def test_promotions(self):
-        """The primary is lost, the standby's image is promoted and goes on with a new standby behind it."""
+        """The primary is lost, the standby's image is promoted and goes on with a newcomer behind it."""
         if b"promote" not in common.run_program("server", ["--help"]).output:
             print("test_crashes: no round of promotion, since wbl-server has no such subcommand", flush=True)
             return
@@ -144,7 +144,7 @@ class Crashes(PairCases):
         self.assertEqual(kept.inspect()["position"], kept_at)
         self.nodes.primary = self.nodes.primary_over(kept.image)
         self.nodes.standby = self.nodes.standby_over(self.nodes.folder / f"standby{number}.img")
-        self.nodes.standby.format(self.nodes.lines)
+        self.nodes.standby.format(self.nodes.lines, newcomer_of=kept.inspect()["epoch"])
         self.start(self.nodes.standby, self.nodes.primary)
         # the image of the old primary still opens
         self.assertEqual(lost.inspect()["position"], lost_at)

@@ -227,36 +227,20 @@ class Following(StandingBy):
                         self.assertEqual(node.exchange(text(frame) + SET_A), text(Acknowledgement(1, 1)))
                         self.assert_holds(path, writer)
 
-    def test_at_position_0_a_higher_epoch_is_taken(self):
-        """With the first group that is applied: the record bears it then, and so does the acknowledgement. Nothing else of another epoch is taken there."""
+    def test_another_epoch_is_refused_at_position_0_too(self):
+        """Where it has taken nothing: also a higher one, with a frame that begins there."""
         change = (Put((b"a",), b"1"),)
-        for epoch in (2, 7, LIMIT - 1):
-            with self.case("epoch", epoch=epoch), self.folder() as folder:
-                writer = Writer(LINES, STANDBY)
-                path = self.made(folder, writer.words)
-                writer.reopen()
-                with Node(path) as node:
-                    for refused in (Group(0, 0, 1, change), Group(epoch, 1, 2, change)):
-                        self.assertEqual(node.exchange(text(refused)), text(Acknowledgement(1, 0)))
-                        self.assert_holds(path, writer)
-                    frame = Group(epoch, 0, 1, change)
-                    self.assertEqual(node.exchange(text(frame)), text(Acknowledgement(1, 0)) + text(Acknowledgement(epoch, 1)))
-                    writer.record = writer.record._replace(epoch=epoch)
-                    take(writer, frame)
-                    self.assert_holds(path, writer)
-                    for refused in (Group(1, 1, 2, change), Group(epoch + 1, 1, 2, change)):
-                        self.assertEqual(node.exchange(text(refused)), text(Acknowledgement(epoch, 1)))
-                        self.assert_holds(path, writer)
-
-    def test_an_epoch_stays_below_2_to_the_62(self):
         with self.folder() as folder:
             writer = Writer(LINES, STANDBY)
             path = self.made(folder, writer.words)
             writer.reopen()
             with Node(path) as node:
-                found = node.exchange(text(Group(LIMIT, 0, 1, (Put((b"a",), b"1"),))))
-                self.assertEqual((found, node.ended()), (text(Acknowledgement(1, 0)), (FAILED, b"", refusal(6))))
-                self.assert_holds(path, writer)
+                for epoch in (0, 2, 7, LIMIT - 1, LIMIT):
+                    with self.case("epoch", epoch=epoch):
+                        for refused in (Group(epoch, 0, 1, change), Group(epoch, 1, 2, change)):
+                            self.assertEqual(node.exchange(text(refused)), text(Acknowledgement(1, 0)))
+                            self.assert_holds(path, writer)
+                self.assertEqual(node.exchange(SET_A), text(Acknowledgement(1, 0)) + text(Acknowledgement(1, 1)))
 
     def test_a_position_stays_below_2_to_the_62(self):
         """A frame that ends at the limit ends the program, and nothing of it is taken."""

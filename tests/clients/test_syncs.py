@@ -225,7 +225,7 @@ class PowerCuts(NotedCases):
                     self.promote(kept)
                     self.nodes.primary = self.nodes.primary_over(kept.image)
                     self.nodes.standby = self.nodes.standby_over(self.nodes.folder / f"standby{number}.img")
-                    self.nodes.standby.format(self.nodes.lines)
+                    self.nodes.standby.format(self.nodes.lines, newcomer_of=kept.inspect()["epoch"])
                     for node in (self.nodes.standby, self.nodes.primary):
                         self.start(node)
                     self.nodes.wait()

@@ -112,7 +112,7 @@ class Promotions(Steps):
         return "ended, a standby still" if image.record.role == STANDBY else "ended, a primary then"
 
     def assert_goes_on(self, is_done):
-        """The same words promote it, or say that it is promoted; and it serves all that it held, with a new standby behind it."""
+        """The same words promote it, or say that it is promoted; and it serves all that it held, with a newcomer behind it."""
         again = self.promote()
         if is_done or again.status != DONE:
             self.assertEqual(again, (FAILED, b"", b"refusal 16: wrong role\n"))
@@ -120,7 +120,7 @@ class Promotions(Steps):
             self.assertEqual(again, (DONE, b"promoted to epoch 2\n", b""))
         nodes = self.nodes
         primary, standby = nodes.primary_over(nodes.standby.image), nodes.standby_over(nodes.folder / "new.img")
-        standby.format(LINES + MORE_LINES)
+        standby.format(LINES + MORE_LINES, newcomer_of=2)
         for node in (standby, primary):
             node.start(nodes.descriptors)
         self.wait_for(primary)
@@ -137,7 +137,7 @@ def ways_of_lasting(ways, kind, how):
 
 
 class Openings(Steps):
-    """Both nodes begin again over their images, or the standby over a new one, which gets all as one frame; one call of one of them is refused."""
+    """Both nodes begin again over their images, or the standby over a newcomer's, which gets a copy; one call of one of them is refused."""
 
     LAST = ("k2", b"x")
 
@@ -155,14 +155,14 @@ class Openings(Steps):
                     with self.case("opening", role=role, is_new=is_new, kind=kind, how=name_of(how), number=number):
                         self.open_again(nodes, role, is_new, kind, number, how, counted)
                 del counted["as ever"]
-                tell(f"a {role} and {'a delta' if is_new else 'a reopening of both'}, {kind} with {name_of(how)}, of {count} calls", counted)
+                tell(f"a {role} and {'a copy' if is_new else 'a reopening of both'}, {kind} with {name_of(how)}, of {count} calls", counted)
 
     def open_again(self, nodes, role, is_new, kind, number, how, counted):
         """Both nodes begin again, and a change is answered in the end."""
         faults, node = self.by_role[role], getattr(nodes, role)
         nodes.end()
         if is_new:
-            nodes.standby.format(LINES + MORE_LINES)
+            nodes.standby.format(LINES + MORE_LINES, newcomer_of=1)
         faults.refuse(kind, number, how=how)
         for each in (nodes.standby, nodes.primary):
             each.errors.unlink(missing_ok=True)

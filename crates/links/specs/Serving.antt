@@ -1,5 +1,5 @@
 -- How a standby serves a link: which frames it answered, and what it holds then.
-use Rattle.std.specs.Prelude.{◌≡◌, ◌⊎◌, ℕ, nat_eq, nat_lt, nat_le, if◌then◌else◌, List, [], ◌∷◌, ◌++◌, Option, None, Some}
+use Rattle.std.specs.Prelude.{◌≡◌, ◌⊎◌, ℕ, nat_eq, nat_le, if◌then◌else◌, List, [], ◌∷◌, ◌++◌, Option, None, Some}
 use Rattle.std.specs.List.{flat_map}
 use Rattle.std.specs.Io.KnownBytes.{Appends, Consumes}
 use Rattle.stream_codec.specs.Stream.{Reaches}
@@ -148,8 +148,7 @@ pub record IsOf (head : GroupHead) (frame : Frame) : Type 0 where
 -- why a node of this epoch at this position will refuse a frame of these numbers, if it will
 abbrev pub refusal_of_head : ℕ → ℕ → GroupHead → Option Refusal
 refusal_of_head epoch position head =
-    if nat_eq head.epoch epoch then (if nat_le head.after position then None else (if nat_eq head.before position then None else Some PositionGap))
-    else (if nat_eq position 0 then (if nat_lt epoch head.epoch then (if nat_eq head.before position then None else Some PositionGap) else Some WrongEpoch) else Some WrongEpoch)
+    if nat_eq head.epoch epoch then (if nat_le head.after position then None else (if nat_eq head.before position then None else Some PositionGap)) else Some WrongEpoch
 
 -- the node refuses the frame so when it is whole, if so it does
 abbrev pub IsRefusedBy : Record → Frame → Option Refusal → Type 0

@@ -39,12 +39,10 @@ pub(crate) fn refusal_of_head(epoch: u64, position: u64, head: &GroupHead) -> Op
     ensures refused { (node : NodeRecord) → (frame : Sent) → node.epoch ≡ epoch → node.position ≡ position → IsOf head.now frame
         → IsRefusedBy node frame result }
 {
-    let takes_epoch = head.epoch == epoch || (position == 0 && head.epoch > epoch);
-    if !takes_epoch {
+    if head.epoch != epoch {
         return Some(Refusal::WrongEpoch);
     }
-    let is_held = head.epoch == epoch && head.after <= position;
-    if is_held || head.before == position {
+    if head.after <= position || head.before == position {
         return None;
     }
     Some(Refusal::PositionGap)

@@ -204,7 +204,7 @@ impl AckReceiver {
     ///
     /// # Errors
     ///
-    /// `WrongEpoch` for one of another epoch, unless it is of position 0 and of a lower epoch; `StandbyAhead` just for one that counts and is above the
+    /// `WrongEpoch` for one of another epoch; `StandbyAhead` just for one that counts and is above the
     /// local mark, and from then on for each later one that would count. The remote mark stays.
     pub fn hear(&mut self, ack: Ack) -> Result<(), Refusal>
         ensures epoch { self.new.epoch ≡ self.old.epoch }

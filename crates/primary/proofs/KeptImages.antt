@@ -293,5 +293,5 @@ module _ (past : Past) (lines' : ℕ) (image : Image) (role : Role) (contents : 
         → DeltaLeads contents.current.position past opening
     delta-leads opening position floor leads = record {
       position_is = position;
-      leads = λ p from below. leads p (past p) (keyspaces p) (recalls-reopened p (omega (arith, from, floor)) below) ∙ ap (λ (one : Sequencing). records one.table) over.starts_so ∙ serves;
+      leads = λ p from below. leads p (past p) from (keyspaces p) (recalls-reopened p (omega (arith, from, floor)) below) ∙ ap (λ (one : Sequencing). records one.table) over.starts_so ∙ serves;
     }

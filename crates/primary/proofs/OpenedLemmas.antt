@@ -11,8 +11,8 @@ use Rattle.primary.specs.Resuming.{IsOver}
 
 -- it leads to the keyspace that is served
 pub leads_to : (contents : Contents) (s : Sequencing) (opening : Opening) → IsConsistent contents → IsOver contents s → IsOpening contents opening → LeadsTo contents opening (records s.table)
-leads_to contents s opening consistent over is = λ from past lawful recalls.
+leads_to contents s opening consistent over is = λ from past floored lawful recalls.
     let served : records s.table ≡ records over.table = ap (λ (one : Sequencing). records one.table) over.starts_so in
-    delta_leads_on contents opening (λ i. Unit {0}) from past (records over.table) is lawful over.table_is.keyspace
+    delta_leads_on contents opening (λ i. Unit {0}) from past (records over.table) is floored lawful over.table_is.keyspace
     (map-from_table contents.versions (entries_of contents) over.table consistent.beyond over.table_is) consistent.beyond recalls
     ∙ sym served

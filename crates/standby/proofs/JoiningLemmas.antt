@@ -32,7 +32,7 @@ pub whole-in_turn : (first next whole : Frame) (before middle after : Contents) 
     → HasTaken first before middle old between → HasTaken whole before after old new → IsTakenNext middle.current next × HasTaken next middle after between new
 whole-in_turn first next whole before middle after old between new on joined one both = (
   record {
-    epoch = inl (on.epoch ∙ sym one.epoch);
+    epoch = on.epoch ∙ sym one.epoch;
     next = record {
       later = subst (λ (n : ℕ). n < next.after) (on.position ∙ sym one.position) on.later;
       joined = on.position ∙ sym one.position;

@@ -42,9 +42,9 @@ pub record HasFreed (ended : List EntryNo) (old new : Contents) (room room' : Ro
 
 -- ---- frames
 
--- a node with this record takes frames of this epoch: its own, or, while it is at position 0, a higher one
+-- a node with this record takes frames of this epoch: its own
 abbrev pub TakesEpoch : Record → ℕ → Type 0
-TakesEpoch current epoch = (epoch ≡ current.epoch) ⊎ ((current.position ≡ 0) × (current.epoch < epoch))
+TakesEpoch current epoch = epoch ≡ current.epoch
 
 -- the node holds the frame already: it is of its own epoch, and ends at its position or below it
 pub record IsHeld (current : Record) (frame : Frame) : Type 0 where

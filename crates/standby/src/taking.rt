@@ -20,9 +20,8 @@ use std::alloc::Global;
 use wbl_engine::{Durable, free_unraised};
 
 impl<E: Durable, K: Keyspace> Standby<E, K> {
-    /// Takes a frame of its epoch, or, at position 0, of a higher one. One of its epoch that ends at its position or below it is acknowledged again. One
-    /// that begins at its position moves the standby by all the frame's changes under one record, which bears the frame's epoch, and is acknowledged:
-    /// it is durable then. What the frame ended is listed and not freed: `free_ended` does that, and so does the next call that takes a frame: by the
+    /// Takes a frame of its epoch. One that ends at its position or below it is acknowledged again. One that begins at its position moves the standby by all
+    /// the frame's changes under one record, and is acknowledged: it is durable then. What the frame ended is listed and not freed: `free_ended` does that, and so does the next call that takes a frame: by the
     /// fences of its commit where the frame has room beside it, and else before it makes room. A frame that is refused is gone, and has to be sent again.
     ///
     /// It can be called on a standby that was opened or restarted, and again after each of its calls that did not answer `Fault`. After `Fault` it can
@@ -30,8 +29,7 @@ impl<E: Durable, K: Keyspace> Standby<E, K> {
     ///
     /// # Errors
     ///
-    /// `WrongEpoch` for a frame of another epoch, `PositionGap` for one that begins elsewhere, or at position 0 for one of a higher epoch that ends
-    /// there, `Exhausted` if a counter would reach 2^62, or for a newcomer: nothing changed. `Full` if the image has no room for its puts, also after all that had ended
+    /// `WrongEpoch` for a frame of another epoch, `PositionGap` for one that begins elsewhere, `Exhausted` if a counter would reach 2^62, or for a newcomer: nothing changed. `Full` if the image has no room for its puts, also after all that had ended
     /// is freed and the gaps of the record are cleared: that stands, and nothing else changed. `Memory` if an allocation was refused: nothing
     /// changed but what was done to make room. `Fault` if a fence failed: the engine holds the map that it held, or the whole frame, but the keyspace
     /// and the heap may be ahead of it or behind it, so the image has to be reopened.
@@ -42,7 +40,7 @@ impl<E: Durable, K: Keyspace> Standby<E, K> {
         if !self.takes_epoch(frame.epoch) {
             return Err(Refusal::WrongEpoch);
         }
-        if frame.epoch == self.epoch() && frame.after <= self.position() {
+        if frame.after <= self.position() {
             return Ok(self.ack());
         }
         if !is_next(self.position(), &frame) {
@@ -73,11 +71,11 @@ impl<E: Durable, K: Keyspace> Standby<E, K> {
         Ok(self.ack())
     }
 
-    /// Whether it takes frames of this epoch: its own, or, at position 0, a higher one.
+    /// Whether it takes frames of this epoch: its own.
     pub(crate) fn takes_epoch(&self, epoch: u64) -> bool
         ensures { IsTrue result ↔ TakesEpoch (E.contents self.now.engine).current epoch }
     {
-        epoch == self.epoch() || (self.position() == 0 && epoch > self.epoch())
+        epoch == self.epoch()
     }
 
     /// Frees what has ended, and gives its places back to the heap. `Memory` if an allocation was refused, with nothing changed. `Fault` if a fence

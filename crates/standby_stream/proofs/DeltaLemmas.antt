@@ -169,7 +169,7 @@ module _ (t : Keyspace) (lawful : IsKeyspace t) where
 
 -- ---- the whole delta
 
-module _ (contents : Contents) (opening : Opening) (Counts : ℕ → Type 0) (from : ℕ) (s t : Keyspace) (is : IsOpening contents opening) (lawful_s : IsKeyspace s) (lawful : IsKeyspace t)
+module _ (contents : Contents) (opening : Opening) (Counts : ℕ → Type 0) (from : ℕ) (s t : Keyspace) (is : IsOpening contents opening) (floored : opening.floor ≤ from) (lawful_s : IsKeyspace s) (lawful : IsKeyspace t)
     (map_is : IsMapOf contents.versions (entries_of contents) t) (beyond : (i : ℕ) → entries_of contents ≤ i → contents.versions i ≡ None) (recalls : Recalls contents.versions Counts from s) where
   abbrev left : Keyspace
   left = play_all s (map Drop opening.gone.items)
@@ -205,7 +205,7 @@ module _ (contents : Contents) (opening : Opening) (Counts : ℕ → Type 0) (fr
   row_live row m =
       let among = member-from_kept (λ (r : Row). nat_lt from r.position) opening.rows.items row m in
       let listed = subst (λ rows. Contains rows (row.id, cell_of_row row)) is.rows (mapped_member (λ (r : Row). (r.id, cell_of_row r)) opening.rows.items row among.0) in
-      let kept = member-from_kept (λ (entry : RecordId × Cell). nat_lt 0 entry.1.position) is.table (row.id, cell_of_row row) listed in
+      let kept = member-from_kept (λ (entry : RecordId × Cell). nat_lt opening.floor entry.1.position) is.table (row.id, cell_of_row row) listed in
       let cell = is.table_is.live row.id (cell_of_row row) (found-from_row is.table row.id (cell_of_row row) (sorted-from_table contents.versions is.table is.table_is) kept.0) in
       found_live row.entry.0 row.id row.value cell.live
 
@@ -221,7 +221,7 @@ module _ (contents : Contents) (opening : Opening) (Counts : ℕ → Type 0) (fr
       put_above i live above =
           let cell : Cell = record { value = value; entry = i; position = live.version.position } in
           let at : Contains is.table (q, cell) = row-from_found is.table q cell (is.table_is.found q cell (cell-of_live contents.versions i q value live)) in
-          let kept = kept-from_member (λ (entry : RecordId × Cell). nat_lt 0 entry.1.position) is.table (q, cell) at (lt-ltb 0 live.version.position (omega (arith, above))) in
+          let kept = kept-from_member (λ (entry : RecordId × Cell). nat_lt opening.floor entry.1.position) is.table (q, cell) at (lt-ltb opening.floor live.version.position (omega (arith, above, floored))) in
           let found = member-from_made (λ (r : Row). (r.id, cell_of_row r)) opening.rows.items (q, cell) (subst (λ rows. Contains rows (q, cell)) (sym is.rows) kept) in
           let position : live.version.position ≡ found.0.position = sym (ap (λ (entry : RecordId × Cell). entry.1.position) found.2) in (
             found.0,

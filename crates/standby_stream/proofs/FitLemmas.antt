@@ -176,7 +176,7 @@ deltas_fit contents opening from is lawful fitting few =
     = ap length (flat_map-append (λ (i : ℕ). lines_in (versions i)) drops.entries (entries_of table)) ∙ length-append (lines_held versions drops.entries) (lines_held versions (entries_of table)) in
     let size = changes_size-append (map Drop opening.gone.items) (map put_of_row (filter (λ (row : Row). nat_lt from row.position) opening.rows.items)) in
     let chosen = filtered_less put_of_row (λ (row : Row). nat_lt from row.position) opening.rows.items in
-    let rows : changes_size (map put_of_row opening.rows.items) ≡ changes_size (map (λ (row : RecordId × Cell). Put row.0 row.1.value) (since 0 table))
+    let rows : changes_size (map put_of_row opening.rows.items) ≡ changes_size (map (λ (row : RecordId × Cell). Put row.0 row.1.value) (since opening.floor table))
     = ap changes_size (puts_of_table opening.rows.items ∙ ap (map (λ (row : RecordId × Cell). Put row.0 row.1.value)) is.rows) in
-    let kept = filtered_less (λ (row : RecordId × Cell). Put row.0 row.1.value) (λ (row : RecordId × Cell). nat_lt 0 row.1.position) table in
+    let kept = filtered_less (λ (row : RecordId × Cell). Put row.0 row.1.value) (λ (row : RecordId × Cell). nat_lt opening.floor row.1.position) table in
     delta_bound _ _ _ _ _ _ _ _ _ contents.lines size chosen rows kept drops.room puts lines fits few

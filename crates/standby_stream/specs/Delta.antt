@@ -50,12 +50,12 @@ ids_ended = flat_map id_if_ended
 abbrev pub AreIdsEnded : Contents → List RecordId → Type 0
 AreIdsEnded contents ids = (id : RecordId) → Contains ids id ↔ ((i : ℕ) × IsGone contents.versions i id)
 
--- The rows are those of the live versions of these contents, all that have a position above 0, in the order of records; and what is gone is each record,
--- once and in that order, that has a version that has ended and no live one.
+-- The rows are those of the live versions of these contents, all that have a position above the floor, in the order of records; and what is gone is each
+-- record, once and in that order, that has a version that has ended and no live one.
 pub record IsOpening (contents : Contents) (opening : Opening) : Type 0 where
   pub table : Table
   pub table_is : IsTable contents.versions table
-  pub rows : table_of opening.rows.items ≡ since 0 table
+  pub rows : table_of opening.rows.items ≡ since opening.floor table
   pub gone : (id : RecordId) → Contains opening.gone.items id
       ↔ (((i : ℕ) × IsGone contents.versions i id) × (¬ ((i : ℕ) × (value : List ℕ) × IsLive contents.versions i id value)))
   pub rising : IsStrictlySortedBy record_cmp opening.gone.items
@@ -74,20 +74,20 @@ pub record IsDelta (epoch : ℕ) (opening : Opening) (from : ℕ) (frame : Frame
   pub after : frame.after ≡ opening.position
   pub changes : frame.changes.items ≡ delta_changes opening from
 
--- From each position at which the versions recall the keyspace, the delta leads to this one.
+-- From each position, no lower than the floor, at which the versions recall the keyspace, the delta leads to this one.
 abbrev pub LeadsTo : Contents → Opening → Keyspace → Type 0
-LeadsTo contents opening t = (from : ℕ) (s : Keyspace) → IsKeyspace s → Recalls contents.versions (λ i. Unit {0}) from s → play_all s (delta_changes opening from) ≡ t
+LeadsTo contents opening t = (from : ℕ) (s : Keyspace) → opening.floor ≤ from → IsKeyspace s → Recalls contents.versions (λ i. Unit {0}) from s → play_all s (delta_changes opening from) ≡ t
 
--- A delta may start at this position, with this floor: what ended above it is there still. A standby at 0 has nothing, so that puts are enough.
+-- A delta may start at this position, with this floor: what ended above it is there still.
 abbrev pub IsServed : ℕ → ℕ → Type 0
-IsServed floor position = (position ≡ 0) ⊎ (floor ≤ position)
+IsServed floor position = floor ≤ position
 
 -- ---- what is promised of it
 
--- Played on the keyspace at a position that the versions recall, the delta from there leads to the keyspace of the live versions.
+-- Played on the keyspace at a position, no lower than the floor, that the versions recall, the delta from there leads to the keyspace of the live versions.
 abbrev pub DeltasLeadOn : Type 0
 DeltasLeadOn =
-    (contents : Contents) (opening : Opening) (from : ℕ) (s t : Keyspace) → IsOpening contents opening → IsKeyspace s → IsKeyspace t
+    (contents : Contents) (opening : Opening) (from : ℕ) (s t : Keyspace) → IsOpening contents opening → opening.floor ≤ from → IsKeyspace s → IsKeyspace t
     → IsMapOf contents.versions (entries_of contents) t → ((i : ℕ) → entries_of contents ≤ i → contents.versions i ≡ None)
     → Recalls contents.versions (λ i. Unit {0}) from s → play_all s (delta_changes opening from) ≡ t
 

@@ -1,5 +1,5 @@
 -- What a link to a standby holds, and what its calls do to it (this project's profile).
-use Rattle.std.specs.Prelude.{◌≡◌, ℕ, ◌+◌, ◌-◌, ◌<◌, ◌≤◌, max, Bool, true, false, ◌||◌, ◌&&◌, nat_eq, nat_lt, if◌then◌else◌, List, [], ◌∷◌, ◌++◌, length, Option, Some, None}
+use Rattle.std.specs.Prelude.{◌≡◌, ℕ, ◌+◌, ◌-◌, ◌<◌, ◌≤◌, max, Bool, true, false, nat_eq, if◌then◌else◌, List, [], ◌∷◌, ◌++◌, length, Option, Some, None}
 use Rattle.model.specs.declared.group.Group.{Group}
 use Rattle.model.specs.Group.{changes_of_group, last_position}
 use Rattle.pipes.specs.declared.limits.TheConstants.{KEPT_GROUPS}
@@ -83,9 +83,9 @@ Frames old (Some group) given new =
     × ((frame : Frame) × IsFrameOf old.epoch group frame
     × (new ≡ record old { kept = old.kept ++ frame ∷ []; next = old.next + 1; pending = None }))
 
--- a primary of this epoch counts the acknowledgement as its own: it is of its epoch, or of a lower one and of position 0, at which nothing was acknowledged yet
+-- a primary of this epoch counts the acknowledgement: it is of its epoch
 abbrev pub counts : ℕ → Ack → Bool
-counts epoch ack = nat_eq ack.epoch epoch || (nat_eq ack.position 0 && nat_lt ack.epoch epoch)
+counts epoch ack = nat_eq ack.epoch epoch
 
 -- the link once the standby has acknowledged up to this position
 abbrev pub acknowledged : ℕ → Stream → Stream

@@ -2,7 +2,7 @@
 ghost use Rattle.standby_stream.specs.Delta.{DeltasFit, DeltasLeadOn, EndedAreRead};
 ghost use Rattle.standby_stream.specs.Leading.{LeadsOnFrom, LeadsOnFromBehind};
 
-/// A delta leads from the keyspace at any position that the versions recall to the keyspace of the live ones, and one frame has room for it.
+/// A delta leads from the keyspace at any position, no lower than the floor, that the versions recall to the keyspace of the live ones, and one frame has room for it.
 pub fn deltas_lead_on()
     ensures leads { DeltasLeadOn }
     ensures fits { DeltasFit }

@@ -364,19 +364,11 @@ impl Link {
     }
 }
 
-/// Whether a primary of this epoch counts an acknowledgement as its own: one of its epoch, or of a lower one at position 0, where nothing was
-/// acknowledged yet.
-fn counts(epoch: u64, ack: Ack) -> bool
-    ensures { result ≡ counts epoch ack }
-{
-    ack.epoch() == epoch || (ack.position() == 0 && ack.epoch() < epoch)
-}
-
 /// Whether a primary of this epoch takes an acknowledgement, where its own position is `own`.
 ///
 /// # Errors
 ///
-/// `WrongEpoch` for one that does not count as of this epoch, `StandbyAhead` for one above the own position.
+/// `WrongEpoch` for one of another epoch, `StandbyAhead` for one above the own position.
 pub fn judge(epoch: u64, ack: Ack, own: u64) -> Result<(), Refusal>
     ensures wrong { counts epoch ack ≡ false ↔ (result ≡ Err WrongEpoch) }
     ensures ahead { counts epoch ack ≡ true → own < ack.position → result ≡ Err StandbyAhead }
@@ -384,7 +376,7 @@ pub fn judge(epoch: u64, ack: Ack, own: u64) -> Result<(), Refusal>
     ensures taken { OnOk result ((counts epoch ack ≡ true) × (ack.position ≤ own)) }
     ensures causes { IfErr result (λ refusal. (refusal ≡ WrongEpoch) ⊎ (refusal ≡ StandbyAhead)) }
 {
-    if !counts(epoch, ack) {
+    if ack.epoch() != epoch {
         return Err(Refusal::WrongEpoch);
     }
     if ack.position() > own {

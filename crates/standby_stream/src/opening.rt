@@ -23,7 +23,7 @@ pub struct Opening {
     pub floor: u64,
     /// Records that had a version that had ended and no live one, each once, in the order of records.
     pub gone: Vec<RecordId>,
-    /// The live records, in that order.
+    /// The live records whose change comes after the floor, in that order.
     pub rows: Vec<Row>,
 }
 
@@ -58,7 +58,7 @@ impl Opening {
     ) -> Result<Opening, Refusal>
         ensures position { IfOk result (λ opening. opening.position ≡ position) }
         ensures floor { IfOk result (λ opening. opening.floor ≡ floor) }
-        ensures rows { IfOk result (λ opening. table_of opening.rows.items ≡ since 0 (K.table keyspace.now)) }
+        ensures rows { IfOk result (λ opening. table_of opening.rows.items ≡ since opening.floor (K.table keyspace.now)) }
         ensures gone { IfOk result (λ opening. (id : RecordId) → Contains opening.gone.items id
             ↔ (Contains ended.items id × (value_at (records (K.table keyspace.now)) id ≡ None))) }
         ensures rising { IfOk result (λ opening. IsStrictlySortedBy record_cmp opening.gone.items) }
@@ -68,15 +68,15 @@ impl Opening {
             position,
             floor,
             gone: gone_among(keyspace, ended),
-            rows: keyspace.since(alloc, 0)?,
+            rows: keyspace.since(alloc, floor)?,
         })
     }
 
-    /// Whether a delta may start at this position: at 0, or at the floor or above.
+    /// Whether a delta may start at this position: at the floor or above.
     pub(crate) fn serves(&self, position: u64) -> bool
         ensures { IsTrue result ↔ IsServed self.now.floor position }
     {
-        position == 0 || self.floor <= position
+        self.floor <= position
     }
 
     /// Forgets the records, once no standby can be behind the position.

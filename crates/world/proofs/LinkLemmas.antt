@@ -363,14 +363,3 @@ knows calls code handed remote position machine from to stands chain =
       code_follows = ap (stage_at position) stands.code_follows;
       none_aside = ap (frames_above position) stands.none_aside;
     })
-
--- one that tells nothing takes nothing
-pub knows-nothing : (calls : List Call) (code : Stream) (handed : Waiting Group) (remote : ℕ) (machine : Machine) (from to : ℕ) → LinkRefines calls code handed remote machine → IsChain from machine.kept to
-    → knowing 0 machine ≡ machine
-knows-nothing calls code handed remote machine from to stands chain =
-    let kept : above 0 machine.kept ≡ machine.kept = above-all 0 from machine.kept to (omega arith) chain in
-    let again : above 0 machine.again ≡ machine.again =
-    subst (λ (groups : List Span). above 0 groups ≡ groups) stands.again (above-drop 0 from code.next machine.kept to (omega arith) chain) in
-    let known : max machine.known 0 ≡ machine.known = omega arith in
-    ap (λ (copying : Copying). ended_at 0 copying (without 0 machine)) stands.copying_is
-    ∙ ap₂ (λ (k a : List Span). record machine { kept = k; again = a; known = max machine.known 0 }) kept again ∙ ap (λ n. record machine { known = n }) known

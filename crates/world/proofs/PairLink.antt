@@ -15,7 +15,7 @@ use Rattle.world.specs.Recalling.{OpeningLeads}
 use Rattle.follower.specs.Standby.{told_by}
 use Rattle.world.specs.Pair.{Does, FreeingRefines, Pair, PairRefines, PartsRefine, Steps}
 use Rattle.follower.proofs.FrameLemmas.{AreFramesSent-push, may_be_sent, ack_of_read, ack_of_number, length-acks}
-use Rattle.world.proofs.LinkLemmas.{Answers as LinkAnswers, sends, knows, knows-nothing}
+use Rattle.world.proofs.LinkLemmas.{Answers as LinkAnswers, sends, knows}
 use Rattle.follower.proofs.ArrivalLemmas.{ReadsAs, same_found}
 use Rattle.world.proofs.RecallLemmas.{opening-forgotten}
 use Rattle.world.proofs.PairLemmas.{cut-same, goes-steps, reach-below, stays-does, tells, steps-only, cut-only}
@@ -240,34 +240,12 @@ ack-does old n bytes ack link opening within found reads learns refuses =
     told-one epoch position told i one all is = All-head (IsToldWithin epoch position) one [] (subst (λ (o : Option Acknowledgement). All (IsToldWithin epoch position) (option_items o)) is (all-at (IsToldWithin epoch position) told i all))
 
     -- one that is counted is of the standby's position or below
-    either-within : (same low : Bool) (p : ℕ) (lower : Bool) → (same || (low && lower)) ≡ true → (same ≡ true → ack.position ≤ p) → (low ≡ true → ack.position ≡ 0) → ack.position ≤ p
-    either-within true low p lower counted own none = own refl
-    either-within false true p lower counted own none = omega (arith, none refl)
-    either-within false false p lower counted own none = cc
-
     within-standby : (first second : Holder) (w : World) → PairRefines first second old w → counts old.wire.link.epoch ack ≡ true → IsToldWithin w.primary.epoch w.standby.position (told_by ack) → ack.position ≤ w.standby.position
     within-standby first second w stands counted one =
-        either-within (nat_eq ack.epoch old.wire.link.epoch) (nat_eq ack.position 0) w.standby.position (nat_lt ack.epoch old.wire.link.epoch) counted
-        (λ same. one.within (eqb-true ack.epoch old.wire.link.epoch same ∙ stands.parts.epoch)) (eqb-true ack.position 0)
+        one.within (eqb-true ack.epoch old.wire.link.epoch counted ∙ stands.parts.epoch)
 
-    lower-zero : (same low lower : Bool) → (same || (low && lower)) ≡ true → same ≡ false → low ≡ true
-    lower-zero true low lower counted other = absurd (true≢false other)
-    lower-zero false true lower counted other = refl
-    lower-zero false false lower counted other = cc
-
-    -- one that is counted without being of the epoch tells nothing, and the machine does not count it
-    counts-as : (epoch position : ℕ) (link : MachineLink) → ack.position ≤ position → counts epoch ack ≡ true → knowing 0 link ≡ link → told epoch position (Some (told_by ack)) link ≡ knowing ack.position link
-    counts-as epoch position link low counted nothing = elim (nat_eq ack.epoch epoch) as (λ b. nat_eq ack.epoch epoch ≡ b → told epoch position (Some (told_by ack)) link ≡ knowing ack.position link) [
-      | true ↦ λ own. ap (λ b. cond b (knowing ack.position link) link) (ap₂ (λ a b. a && b) own (le-leb ack.position position low))
-      | false ↦ λ other.
-          let none : ack.position ≡ 0 = eqb-true ack.position 0 (lower-zero (nat_eq ack.epoch epoch) (nat_eq ack.position 0) (nat_lt ack.epoch epoch) counted other) in
-          ap (λ b. cond b (knowing ack.position link) link) (ap (λ b. b && nat_le ack.position position) other) ∙ sym (ap (λ n. knowing n link) none ∙ nothing)
-    ] refl
-
-    -- one that is not counted is not of the epoch
-    not-own : (same rest : Bool) → (same || rest) ≡ false → same ≡ false
-    not-own true rest stale = absurd (true≢false stale)
-    not-own false rest stale = refl
+    counts-as : (epoch position : ℕ) (link : MachineLink) → ack.position ≤ position → counts epoch ack ≡ true → told epoch position (Some (told_by ack)) link ≡ knowing ack.position link
+    counts-as epoch position link low counted = ap (λ b. cond b (knowing ack.position link) link) (ap₂ (λ a b. a && b) counted (le-leb ack.position position low))
 
     done : (w : World) → slice_get w.wire.acknowledgements n ≡ Some (told_by ack) → true ≡ may_happen w (events.AckDelivered n)
     done w there = sym (lt-ltb n (length w.wire.acknowledgements) (slice_get_within w.wire.acknowledgements n (told_by ack) there))
@@ -281,10 +259,9 @@ ack-does old n bytes ack link opening within found reads learns refuses =
         let learned : Learns ack.position old link opening = learns counted (omega (arith, low, parts.engine.contents_at.at)) in
         let own : counts w.primary.epoch ack ≡ true = ap (λ e. counts e ack) (sym parts.epoch) ∙ counted in
         let chain = stands.sound.link in
-        let nothing = knows-nothing w.primary.calls old.wire.link old.primary.handed old.wire.remote w.primary.link chain.kept_from stands.sound.sent parts.link chain.kept in
         let knows_now : told w.primary.epoch position (slice_get w.wire.acknowledgements n) w.primary.link ≡ knowing ack.position w.primary.link =
         ap (λ (o : Option Acknowledgement). told w.primary.epoch position o w.primary.link) there
-        ∙ counts-as w.primary.epoch position w.primary.link low own nothing in
+        ∙ counts-as w.primary.epoch position w.primary.link low own in
         let machine = told w.primary.epoch position (slice_get w.wire.acknowledgements n) w.primary.link in
         let now : LinkRefines w.primary.calls link old.primary.handed old.wire.remote machine =
         subst (λ (l : MachineLink). LinkRefines w.primary.calls link old.primary.handed old.wire.remote l) (sym knows_now)
@@ -307,7 +284,7 @@ ack-does old n bytes ack link opening within found reads learns refuses =
         let position = w.primary.committer.position in
         let same = refuses stale in
         let own : counts w.primary.epoch ack ≡ false = ap (λ e. counts e ack) (sym parts.epoch) ∙ stale in
-        let machine_counted : machine_counts w.primary.epoch position (told_by ack) ≡ false = ap (λ b. b && nat_le ack.position position) (not-own (nat_eq ack.epoch w.primary.epoch) _ own) in
+        let machine_counted : machine_counts w.primary.epoch position (told_by ack) ≡ false = ap (λ b. b && nat_le ack.position position) own in
         let knows_now : told w.primary.epoch position (slice_get w.wire.acknowledgements n) w.primary.link ≡ w.primary.link =
         ap (λ (o : Option Acknowledgement). told w.primary.epoch position o w.primary.link) there ∙ ap (λ b. cond b (knowing ack.position w.primary.link) w.primary.link) machine_counted in
         let machine = told w.primary.epoch position (slice_get w.wire.acknowledgements n) w.primary.link in

@@ -220,7 +220,7 @@ pub open-refused : (old : Pair) (wire : Wire) (ack : Ack) (result : Result Bool 
 open-refused old wire ack result refusal follows is refused level cause =
     open-lacks old wire result refusal follows refused
     (λ first second w stands. elim (cases_lt old.wire.link.known old.wire.opening.position) [
-      | inl below ↦ cause below (inr (omega (arith, own-position old ack follows is stands, stands.parts.opening.floored)))
+      | inl below ↦ cause below (omega (arith, own-position old ack follows is stands, stands.parts.opening.floored))
       | inr passed ↦ level (omega (arith, passed, known-within old ack follows is stands)) (known-within old ack follows is stands)
     ])
 

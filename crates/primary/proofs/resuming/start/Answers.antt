@@ -35,7 +35,7 @@ returns-clause-sequencer g c = λ contents at epoch rebuilt are.
 
 -- what was read of the image is told of its opening
 is_opening : (contents : Contents) (table : Table) (ended : List RecordId) (opening : Opening) → IsConsistent contents → IsTable contents.versions table → AreIdsEnded contents ended
-    → table_of opening.rows.items ≡ since 0 table
+    → table_of opening.rows.items ≡ since opening.floor table
     → ((id : RecordId) → Contains opening.gone.items id ↔ (Contains ended id × (value_at (records table) id ≡ None)))
     → IsStrictlySortedBy record_cmp opening.gone.items → IsOpening contents opening
 is_opening contents table ended opening consistent is are rows gone rising = record {
