@@ -3,19 +3,19 @@ use Rattle.std.proofs.Common.{All, ◌≡◌, inl, inr, ℕ, ◌+◌, ◌<◌, �
 use Rattle.world.specs.Words.{Acknowledgement, At, Call, Connection, crashed, cut_at, Frame, Holder, IsFrameWithin, IsStandbyLeft, left, position_of, promoted, reach, Remains, Role, Sent, Sound, World}
 use Rattle.machine.specs.declared.event.Node.TheVariants as node
 use Rattle.machine.proofs.GroupLemmas.{frames_within-weaker}
-use Rattle.world.specs.Condition.{has_crashed, has_ended, has_stopped, runs}
-use Rattle.world.specs.declared.condition.Condition.{Condition}
-use Rattle.world.specs.declared.condition.Condition.TheVariants.{Ended}
+use Rattle.follower.specs.Condition.{has_crashed, has_ended, has_stopped, runs}
+use Rattle.follower.specs.declared.condition.Condition.{Condition}
+use Rattle.follower.specs.declared.condition.Condition.TheVariants.{Ended}
 use Rattle.world.specs.Link.{AreAcksSent, AreFramesRead, AreFramesSent, IsOwn}
 use Rattle.world.specs.Pair.{AroundRefines, Clients, ClientsRefine, EitherRefines, MachineSurroundings, Pair, Surroundings, SurroundingsRefine, surroundings_in}
-use Rattle.world.specs.Standby.{Arrived, ArrivalsRefine, Node, StandbyRefines}
-use Rattle.world.proofs.ArrivalLemmas.{ArrivalsRefine-grows}
+use Rattle.follower.specs.Standby.{Arrived, ArrivalsRefine, Node, StandbyRefines}
+use Rattle.follower.proofs.ArrivalLemmas.{ArrivalsRefine-grows}
 use Rattle.world.proofs.CutLemmas.{AreFramesSent-cut, ArrivalsRefine-cut, IsDown-cut, StandbyStands-cut}
-use Rattle.world.proofs.DownLemmas.{IsDown-grows}
-use Rattle.world.proofs.FrameLemmas.{AreFramesSent-grows}
+use Rattle.follower.proofs.DownLemmas.{IsDown-grows}
+use Rattle.follower.proofs.FrameLemmas.{AreFramesSent-grows}
 use Rattle.world.proofs.PromotionLemmas.{frames-earlier}
 use Rattle.world.proofs.RemainLemmas.{LeavesOne-cut, LeavesOne-grows}
-use Rattle.world.proofs.StandbyLemmas.{StandbyStands-grows}
+use Rattle.follower.proofs.StandbyLemmas.{StandbyStands-grows}
 
 -- whether the primary runs or not
 pub around-stands : {first second : Holder} {pair : Pair} {w : World} → EitherRefines first second pair w → AroundRefines second pair w

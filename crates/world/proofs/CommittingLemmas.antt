@@ -27,7 +27,7 @@ use Rattle.node_steps.proofs.QueueLemmas.{AreWorkOf-grows}
 use Rattle.primary.proofs.LeadsLemmas.{leads-after}
 use Rattle.primary.proofs.NumberedLemmas.{lawful_renumbered}
 use Rattle.world.proofs.RecallLemmas.{remembered-from, remembers-raised, remembers-renumbered}
-use Rattle.world.proofs.RoleLemmas.{newcomer_serves}
+use Rattle.follower.proofs.RoleLemmas.{newcomer_serves}
 
 -- ---- while the list grows
 

@@ -7,7 +7,7 @@ use Rattle.machine.specs.Sound.{IsGroupWithin, IsToldOf}
 use Rattle.machine.proofs.GrowLemmas.{cuts-stay}
 use Rattle.world.specs.Committing.{AreContentsAt, EngineStands, IsDown}
 use Rattle.world.specs.Link.{LiesWithin, IsFrameOf, IsFrameRead, AreFramesRead, AreFramesSent, span_of}
-use Rattle.world.specs.Standby.{Arrived, Node, StandbyStands, ArrivalsRefine}
+use Rattle.follower.specs.Standby.{Arrived, Node, StandbyStands, ArrivalsRefine}
 
 -- the keyspace up to the cut is that of the whole list
 pub keyspace_after-cut_at-cut : (calls : List Call) (n p : ℕ) → p ≤ n → keyspace_after (cut_at (cut_at calls n) p) ≡ keyspace_after (cut_at calls p)

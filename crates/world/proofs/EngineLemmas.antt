@@ -1,53 +1,11 @@
--- An engine over the list of calls: what its contents say of images, and how they stay and move with the list.
-use Rattle.std.proofs.Common.{◌≡◌, ℕ, ◌+◌, ◌-◌, Bool, List, inl, inr, refl, sym, ap, subst, ◌∙◌, arith}
-use Rattle.world.specs.Words.{after_group, AreLawful, Call, Contents, cut_at, entries_of, Group, Holder, Holds, Image, IsGroup, IsGroupOf, IsMapOf, IsUndamaged, Keeps, keyspace_after, last_position, play_all, Span, State}
-use Rattle.world.proofs.Words.{Holds-versions, keyspace_after-cut_at-since, lawful_undamaged, none_leaves}
+-- An engine over the list of calls, one group further.
+use Rattle.std.proofs.Common.{◌≡◌, ◌+◌, ◌-◌, List, sym, ap, subst, ◌∙◌, arith}
+use Rattle.world.specs.Words.{after_group, Call, Contents, cut_at, entries_of, Group, Holder, IsGroup, IsGroupOf, IsMapOf, keyspace_after, last_position, play_all, Span}
+use Rattle.world.proofs.Words.{keyspace_after-cut_at-since}
 use Rattle.model.specs.Group.{changes_of_group}
 use Rattle.model.proofs.GroupsLemmas.{IsMapOf-after_group, IsConsistent-after_group}
-use Rattle.world.specs.Committing.{AreContentsAt, EngineStands, Moves, Rests, Opens, OpensAt, OpensAtEither, NearOnly}
-
--- ---- what a crash leaves
-
--- an image that holds contents at a position, which obey the rules, opens at it
-pub keeps-opens : (holder : Holder) (calls : List Call) (p : ℕ) (contents : Contents) (image : Image) → AreContentsAt holder calls p contents → AreLawful contents → Keeps contents image
-    → OpensAt holder calls p image
-keeps-opens holder calls p contents image are lawful keeps =
-    let s = keyspace_after (cut_at calls p) in
-    record {
-      stands = record {
-        current = contents.current;
-        position = are.at;
-        role = are.role_is;
-        epoch = are.epoch_is;
-        holds = subst (λ n. Holds n contents.current s image) are.lines_are
-            (Holds-versions contents.lines contents.current contents.versions s image keeps.superblock keeps.has_record keeps.versions are.map);
-      };
-      undamaged = subst (λ n. IsUndamaged n contents.current image) are.lines_are (lawful_undamaged contents image lawful keeps);
-    }
-
-pub Opens-engine : (holder : Holder) (calls : List Call) (p : ℕ) (device : State) (contents : Contents) (is_faulted : Bool) → EngineStands holder calls p device contents is_faulted → Opens holder calls p device
-Opens-engine holder calls p device contents is_faulted stands = λ image is. keeps-opens holder calls p contents image stands.contents_at stands.lawful (stands.durable image is)
-
--- nothing happened to the device
-pub near-still : (holder : Holder) (calls : List Call) (p q : ℕ) (device : State) (contents : Contents) (is_faulted : Bool) → EngineStands holder calls p device contents is_faulted → NearOnly holder calls p q device device
-near-still holder calls p q device contents is_faulted stands =
-    none_leaves device (OpensAtEither holder calls p q) (λ image is. inl (Opens-engine holder calls p device contents is_faulted stands image is))
-
-pub rests-same : (holder : Holder) (calls : List Call) (p : ℕ) (old new : State) → new ≡ old → Opens holder calls p old → Rests holder calls p old new
-rests-same holder calls p old new same stands =
-    subst (Rests holder calls p old) (sym same) (record { leaves = none_leaves old (OpensAt holder calls p) stands; failures = refl })
-
--- nothing happened to the device, wherever its node was said to stand before
-pub moves-same : (holder : Holder) (calls : List Call) (p q : ℕ) (old new : State) → new ≡ old → Opens holder calls q new → Moves holder calls p q old new
-moves-same holder calls p q old new same stands = subst (λ (d : State). Moves holder calls p q d new) same
-    (record { leaves = none_leaves new (OpensAtEither holder calls p q) (λ image is. inr (stands image is)); failures = refl })
-
--- nor where it stands is asked after
-pub moves-rest : (holder : Holder) (calls : List Call) (p q : ℕ) (old new : State) → new ≡ old → Opens holder calls p old → Moves holder calls p q old new
-moves-rest holder calls p q old new same stands = subst (λ (d : State). Moves holder calls p q old d) (sym same)
-    (record { leaves = none_leaves old (OpensAtEither holder calls p q) (λ image is. inl (stands image is)); failures = refl })
-
--- ---- one group further
+use Rattle.world.specs.Committing.{AreContentsAt}
+pub use Rattle.follower.proofs.EngineLemmas.{Opens-engine, keeps-opens, moves-rest, moves-same, near-still, rests-same}
 
 -- contents at the start of a group's span are, after the group, at its end
 pub AreContentsAt-after_group : (holder : Holder) (calls : List Call) (contents : Contents) (group : Group) (span : Span) → AreContentsAt holder calls span.before contents → IsGroup contents group

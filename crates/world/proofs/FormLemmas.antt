@@ -20,10 +20,10 @@ use Rattle.world.specs.Committing.{Committing, CommittingRefines, FormattingOnly
 use Rattle.world.specs.Link.{AreFramesSent, IsOwn}
 use Rattle.connections.specs.Session.{ConnectionsRefine}
 use Rattle.connections.specs.declared.connection.Connection.{Connection}
-use Rattle.world.specs.Standby.{Node, StandbyStands, ArrivalsRefine}
+use Rattle.follower.specs.Standby.{Node, StandbyStands, ArrivalsRefine}
 use Rattle.world.specs.Headline.{start}
-use Rattle.world.specs.Condition.{has_crashed, life_as, runs, has_stopped}
-use Rattle.world.specs.declared.condition.Condition.TheVariants as condition
+use Rattle.follower.specs.Condition.{has_crashed, life_as, runs, has_stopped}
+use Rattle.follower.specs.declared.condition.Condition.TheVariants as condition
 use Rattle.world.specs.Pair.{NodesRefine, Pair, allowed, primary_number, ClientsRefine, Lives}
 use Rattle.world.proofs.RecallLemmas.{remembered-new, opening-none}
 use Rattle.world.specs.Recalling.{RemembersFor, past_of}

@@ -10,11 +10,11 @@ use Rattle.primary.proofs.NumberedLemmas.{ended_renumbered}
 use Rattle.world.specs.Committing.{AreContentsAt, EngineStands, OpensAt, OpensAtEither, NearOnly}
 use Rattle.world.specs.Pair.{Lives, Pair, PairRefines, PartsRefine, Steps}
 use Rattle.world.proofs.RemainLemmas.{near-from}
-use Rattle.world.proofs.RoleLemmas.{newcomer_or, newcomer_serves}
+use Rattle.follower.proofs.RoleLemmas.{newcomer_or, newcomer_serves}
 use Rattle.world.proofs.PairLemmas.{moves-primary, does-step, steps-to}
 use Rattle.world.proofs.EngineLemmas.{keeps-opens}
 use Rattle.world.proofs.LivesLemmas.{Runs, SameLives, enabled-is, is_own, lives-like, own-runs, nodes-refine}
-use Rattle.world.specs.Condition as condition
+use Rattle.follower.specs.Condition as condition
 
 -- ---- the engine
 

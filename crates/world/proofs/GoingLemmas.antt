@@ -7,13 +7,13 @@ use Rattle.model.specs.declared.record.Role.{Role}
 use Rattle.machine.specs.declared.event.Node.TheVariants as node
 use Rattle.machine.proofs.SureLemmas.{KeepsNodes, stays-step}
 use Rattle.world.specs.Committing.{OpensAt, promoted_holder}
-use Rattle.world.specs.Condition.{has_ended}
+use Rattle.follower.specs.Condition.{has_ended}
 use Rattle.world.specs.Headline.{GoesOn, Moved, MovesBy, MovesOn, OfSomeNode, OpensThere, Passes, StandsIn, holder_at, node_on, primary_holder, standby_holder, touches_on}
 use Rattle.world.specs.Pair.{NodesRefine, Pair, Steps, Succeeds, first_device, second_device}
 use Rattle.world.specs.Remaining.{MovesAs, OpensNear, Remain, cut_short, is_cut, stops_between}
 use Rattle.world.specs.Step.{touches_primary, touches_standby}
-use Rattle.world.specs.declared.condition.Condition.{Condition}
-use Rattle.world.specs.declared.condition.Condition.TheVariants.{Ended}
+use Rattle.follower.specs.declared.condition.Condition.{Condition}
+use Rattle.follower.specs.declared.condition.Condition.TheVariants.{Ended}
 use Rattle.world.proofs.DeviceLemmas.{still-before}
 use Rattle.world.proofs.LivesLemmas.{retired-as}
 use Rattle.world.proofs.PairLemmas.{primary-stands}

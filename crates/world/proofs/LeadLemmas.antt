@@ -12,7 +12,7 @@ use Rattle.machine.proofs.StandbyLemmas.{left-first}
 use Rattle.machine.proofs.WorkLemmas.{spans_of-from_group}
 use Rattle.world.specs.Committing.{OpensAt, promoted_holder}
 use Rattle.world.specs.Remaining.{OpensAsOne, OpensNear, cut_short}
-use Rattle.world.specs.Following.{moved_by}
+use Rattle.follower.specs.Following.{moved_by}
 use Rattle.world.specs.Headline.{OpensFrom, OpensFromEither, next_at, opens_as, opens_during}
 use Rattle.world.proofs.CutLemmas.{keyspace_after-cut_at-cut}
 

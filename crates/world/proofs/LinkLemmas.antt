@@ -14,7 +14,7 @@ use Rattle.standby_stream.specs.Copying.{ended_at as stage_at}
 use Rattle.standby_stream.specs.declared.copying.Copying.TheVariants as stages
 use Rattle.world.specs.Link.{IsFrameOf, AreFramesOf, LinkRefines}
 use Rattle.node_steps.proofs.GroupSpanLemmas.{AreGroupsOf-grows}
-use Rattle.world.proofs.FrameLemmas.{AreFramesOf-grows, AreFramesOf-push, length-frames}
+use Rattle.follower.proofs.FrameLemmas.{AreFramesOf-grows, AreFramesOf-push, length-frames}
 use Rattle.std.proofs.lemmas.Bool.{lt-leb}
 
 -- a link that was made anew, before anything is handed on to it

@@ -6,9 +6,9 @@ use Rattle.machine.specs.declared.event.Runners.TheVariants as runners
 use Rattle.machine.specs.World as machine
 use Rattle.machine.specs.Event.{Disk, Follows, Frame, Standby, Uncopied}
 use Rattle.world.specs.Pair.{AreLives, Lives, NodesRefine, Pair, PairRefines, StillRefine}
-use Rattle.world.specs.Condition.{has_crashed, has_ended, has_stopped, is_still, life_as, runs}
-use Rattle.world.specs.declared.condition.Condition.{Condition}
-use Rattle.world.specs.declared.condition.Condition.TheVariants.{Running, Stopped, Crashed, Ended}
+use Rattle.follower.specs.Condition.{has_crashed, has_ended, has_stopped, is_still, life_as, runs}
+use Rattle.follower.specs.declared.condition.Condition.{Condition}
+use Rattle.follower.specs.declared.condition.Condition.TheVariants.{Running, Stopped, Crashed, Ended}
 
 -- ---- kinds of events
 

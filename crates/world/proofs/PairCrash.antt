@@ -5,19 +5,19 @@ use Rattle.world.proofs.Words.{position_of-cut_at}
 use Rattle.machine.specs.declared.event.Event.TheVariants as events
 use Rattle.machine.specs.declared.event.Cut.TheVariants as cuts
 use Rattle.machine.specs.declared.event.Node.TheVariants as node
-use Rattle.world.specs.Standby.{Arrived, ArrivalsRefine, Node, StandbyRefines}
+use Rattle.follower.specs.Standby.{Arrived, ArrivalsRefine, Node, StandbyRefines}
 use Rattle.world.specs.Pair.{Acts, AreLives, DownRefine, EitherRefines, NodesRefine, Pair, Steps, Lives, Clients, ClientsRefine, Serving}
 use Rattle.world.proofs.AroundLemmas.{around-stands, around-cut, arrivals-lost}
 use Rattle.world.proofs.CutLemmas.{IsDown-cut}
-use Rattle.world.proofs.DownLemmas.{crash-moves, down-crashed}
+use Rattle.follower.proofs.DownLemmas.{crash-moves, down-crashed}
 use Rattle.world.proofs.LivesLemmas.{not-over, serves-as}
 use Rattle.world.proofs.PairLemmas.{primary-within, reach-below, moves-primary, moves-standby, does-step, steps-to, steps-only}
 use Rattle.world.proofs.PairLives.{stays-acts}
 use Rattle.world.proofs.PairStandby.{follower, standby-either}
 use Rattle.world.proofs.RecallLemmas.{recalls-crashed}
-use Rattle.world.specs.Condition.{life_as, runs, has_stopped}
-use Rattle.world.specs.declared.condition.Condition.{Condition}
-use Rattle.world.specs.declared.condition.Condition.TheVariants.{Running, Stopped, Crashed, Ended}
+use Rattle.follower.specs.Condition.{life_as, runs, has_stopped}
+use Rattle.follower.specs.declared.condition.Condition.{Condition}
+use Rattle.follower.specs.declared.condition.Condition.TheVariants.{Running, Stopped, Crashed, Ended}
 use Rattle.world.proofs.RemainLemmas.{near-from}
 
 -- ---- a node that is crashed already

@@ -8,7 +8,7 @@ use Rattle.machine.specs.declared.event.Cut.TheVariants as cut
 use Rattle.machine.specs.declared.event.Event.TheVariants as events
 use Rattle.machine.specs.declared.event.Node.TheVariants as node
 use Rattle.world.specs.Committing.{IsDown}
-use Rattle.world.specs.Condition.{has_crashed}
+use Rattle.follower.specs.Condition.{has_crashed}
 use Rattle.world.specs.Effect.{LeavesCut, LeavesOf}
 use Rattle.world.specs.Pair.{AreLives, DownRefine, EitherRefines, HasWorld, NodesRefine, Pair, Lives, Clients, ClientsRefine, Serving, Steps}
 use Rattle.world.specs.Recalling.{RecallsFor, past_of}
@@ -17,12 +17,12 @@ use Rattle.world.specs.Stopping.{BreaksPrimary}
 use Rattle.world.proofs.AroundLemmas.{around-stands, around-cut}
 use Rattle.world.proofs.CutLemmas.{IsDown-cut}
 use Rattle.world.proofs.DeviceLemmas.{cut-or-still, on-cut}
-use Rattle.world.proofs.KeptLemmas.{CrashedIn, IsDown-kept, crash-leaves, leaves-cut, left-is, readable-keeps}
+use Rattle.follower.proofs.KeptLemmas.{CrashedIn, IsDown-kept, crash-leaves, leaves-cut, left-is, readable-keeps}
 use Rattle.world.specs.Remaining.{LeftBy, OpensNear}
 use Rattle.world.proofs.RecallLemmas.{recalled-cut}
 use Rattle.world.proofs.LeftLemmas.{left-there}
 use Rattle.world.proofs.LivesLemmas.{crashed-as}
-use Rattle.world.proofs.OpenedLemmas.{StaysSo}
+use Rattle.follower.proofs.OpenedLemmas.{StaysSo}
 use Rattle.world.proofs.PairCrash.{with_crashed_primary}
 use Rattle.world.proofs.PairLemmas.{does-step, moved-primary, reach-below, steps-to}
 use Rattle.world.proofs.PairLives.{stays-acts}

@@ -7,18 +7,18 @@ use Rattle.machine.specs.declared.event.Event.TheVariants as events
 use Rattle.machine.specs.declared.event.Cut.TheVariants as cuts
 use Rattle.machine.specs.declared.event.Node.TheVariants as node
 use Rattle.machine.specs.Event.{Standby}
-use Rattle.world.specs.Condition.{has_crashed, is_still, runs, has_ended}
-use Rattle.world.specs.Following.{next_standby}
+use Rattle.follower.specs.Condition.{has_crashed, is_still, runs, has_ended}
+use Rattle.follower.specs.Following.{next_standby}
 use Rattle.world.specs.Link.{AreFramesRead}
 use Rattle.world.specs.Pair.{HasStandby, HasWorld, NodesRefine, Pair}
 use Rattle.world.specs.Remaining.{KeepsOne, OpensNear}
 use Rattle.world.specs.Step.{IsStep}
-use Rattle.world.specs.Standby.{Arrived, Node}
+use Rattle.follower.specs.Standby.{Arrived, Node}
 use Rattle.world.proofs.AroundLemmas.{around-stands}
-use Rattle.world.proofs.ArrivalLemmas.{some-wait}
-use Rattle.world.proofs.KeptLemmas.{CrashedIn, IsDown-kept, crash-leaves, keeps-here, keeps-left, leaves-cut, left-is, restart-keeps, EngineStands-kept, keeps-either}
+use Rattle.follower.proofs.ArrivalLemmas.{some-wait}
+use Rattle.follower.proofs.KeptLemmas.{CrashedIn, IsDown-kept, crash-leaves, keeps-here, keeps-left, leaves-cut, left-is, restart-keeps, EngineStands-kept, keeps-either}
 use Rattle.world.proofs.LivesLemmas.{crashed-as, crashed-not-over, crashed-whole, not-over, running-as, runs-whole, whole-torn, retired-as}
-use Rattle.world.proofs.OpenedLemmas.{StaysSo}
+use Rattle.follower.proofs.OpenedLemmas.{StaysSo}
 use Rattle.world.proofs.PairCrash.{with_crashed_standby}
 use Rattle.world.proofs.PairCut.{leaves-of}
 use Rattle.world.proofs.PairFallen.{HasFallen, are_behind, fall-enabled, one-behind, stays-behind, goes-by-image}

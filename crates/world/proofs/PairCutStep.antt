@@ -8,11 +8,11 @@ use Rattle.group_commit.specs.declared.due.Due.TheVariants as due
 use Rattle.machine.specs.declared.event.Event.TheVariants as events
 use Rattle.machine.specs.declared.event.Node.TheVariants as node
 use Rattle.world.specs.Committing.{Committing, link_has_room}
-use Rattle.world.specs.Condition.{runs}
+use Rattle.follower.specs.Condition.{runs}
 use Rattle.world.specs.Cutting.{cut_of}
 use Rattle.world.specs.Pair.{HasWorld, NodesRefine, Pair, PairRefines, PartsRefine, Clients, Serving}
 use Rattle.world.specs.Step.{IsStep}
-use Rattle.world.proofs.KeptLemmas.{CrashedIn, EngineStands-kept}
+use Rattle.follower.proofs.KeptLemmas.{CrashedIn, EngineStands-kept}
 use Rattle.world.proofs.LivesLemmas.{running-as, serves-as, serving}
 use Rattle.world.proofs.PairCrash.{with_crashed_primary}
 use Rattle.world.proofs.PairCut.{CutIn, EndsThere, cut-stays, primary-cut}

@@ -7,17 +7,17 @@ use Rattle.machine.specs.declared.event.Node.TheVariants as node
 use Rattle.machine.specs.Event.{asked_to_fail, on_disk, Retired}
 use Rattle.world.specs.Committing.{EngineStands}
 use Rattle.world.specs.Remaining.{MovesNear, OpensNear, Remain, LeftBy}
-use Rattle.world.specs.Condition.{runs, has_ended}
+use Rattle.follower.specs.Condition.{runs, has_ended}
 use Rattle.world.specs.Effect.{asked}
 use Rattle.world.specs.Pair.{FreeingRefines, Acts, EitherRefines, NodesRefine, Pair, PartsRefine, Steps, takes_part, Serving, AreLives, StillRefine, Lives}
-use Rattle.world.specs.Standby.{Node, StandbyRefines, StandbyStands}
+use Rattle.follower.specs.Standby.{Node, StandbyRefines, StandbyStands}
 use Rattle.world.proofs.AroundLemmas.{around-stands}
 use Rattle.world.proofs.LivesLemmas.{not-crashed, not-over, not-still, stopped-still, running-as, serves-as, retired-as}
 use Rattle.world.proofs.PairLemmas.{primary-stands, standby-stands, asked-either, moves-primary, moves-standby, does-step, steps-to, steps-only, untouched}
 use Rattle.world.proofs.PairStandby.{follower, standby-either, with_standby_as}
 use Rattle.machine.specs.declared.event.Cut.TheVariants as cut
-use Rattle.world.specs.declared.condition.Condition.TheVariants.{Ended}
-use Rattle.world.proofs.DownLemmas.{settled-image}
+use Rattle.follower.specs.declared.condition.Condition.TheVariants.{Ended}
+use Rattle.follower.proofs.DownLemmas.{settled-image}
 use Rattle.world.proofs.LeftLemmas.{left-fenced, left-running, left-there}
 use Rattle.world.proofs.PairLives.{stays-acts}
 

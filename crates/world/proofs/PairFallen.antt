@@ -10,18 +10,18 @@ use Rattle.machine.specs.declared.event.Node.TheVariants as node
 use Rattle.machine.specs.Event.{Role as MachineRole, crashed_standby}
 use Rattle.machine.proofs.SoundEvents.{sound-promoted}
 use Rattle.world.specs.Committing.{IsDown, OpensAt, promoted_holder}
-use Rattle.world.specs.Condition.{has_crashed, has_ended, life_as}
+use Rattle.follower.specs.Condition.{has_crashed, has_ended, life_as}
 use Rattle.world.specs.Cutting.{ComesForward, FallsBehind, Finds, GoesByImage}
 use Rattle.world.specs.Effect.{LeavesOf}
-use Rattle.world.specs.declared.condition.AskedFences.{AskedFences}
-use Rattle.world.specs.declared.condition.Condition.{Condition}
-use Rattle.world.specs.declared.condition.Condition.TheVariants.{Crashed, Ended}
+use Rattle.world.specs.declared.asked_fences.AskedFences.{AskedFences}
+use Rattle.follower.specs.declared.condition.Condition.{Condition}
+use Rattle.follower.specs.declared.condition.Condition.TheVariants.{Crashed, Ended}
 use Rattle.world.specs.Pair.{AreLives, DownRefine, EitherRefines, HasStandby, NodesRefine, Pair, Steps, Succeeds, first_device, primary_number, second_device, Lives, ClientsRefine, surroundings_of}
 use Rattle.world.specs.Remaining.{KeepsAs, KeepsAt, KeepsOne, KeepsPromoted, OpensNear}
-use Rattle.world.specs.Standby.{Arrived, ArrivalsRefine, Node, StandbyRefines}
+use Rattle.follower.specs.Standby.{Arrived, ArrivalsRefine, Node, StandbyRefines}
 use Rattle.world.proofs.AroundLemmas.{around-stands, around-promoted, arrivals-lost}
 use Rattle.world.proofs.CutLemmas.{IsDown-cut}
-use Rattle.world.proofs.KeptLemmas.{kept-down, promoted-down}
+use Rattle.follower.proofs.KeptLemmas.{kept-down, promoted-down}
 use Rattle.world.proofs.RecallLemmas.{recalled-none}
 use Rattle.world.specs.Recalling.{past_of}
 use Rattle.world.proofs.PairCrash.{with_crashed_standby}

@@ -12,7 +12,7 @@ use Rattle.world.specs.Committing.{Rests, next_primary, next_standby}
 use Rattle.world.specs.Remaining.{MovesAs, MovesNear, Remain}
 use Rattle.connections.specs.Session.{IsListOf, KeepsSeats, StandsStill, TakesTurn, TellsTheSame}
 use Rattle.world.specs.Pair.{DoesTo, ToldAs, Clients, ClientsRefine, HasStandby, Pair, EitherRefines, NodesRefine, PartsRefine, PairRefines, IsCut, MovesBoth, Steps, Does, AreLives}
-use Rattle.world.specs.Standby.{Node, StandbyRefines}
+use Rattle.follower.specs.Standby.{Node, StandbyRefines}
 use Rattle.world.proofs.AroundLemmas.{around-stands, around-clients, around-grows}
 use Rattle.world.proofs.LivesLemmas.{Runs, enabled-is, is_own, is_plain, lives-step, nodes-refine, own-runs}
 use Rattle.world.specs.Step.{IsRoomier}
@@ -27,11 +27,11 @@ use Rattle.world.proofs.DeviceLemmas.{on-near, on-still}
 use Rattle.world.proofs.RemainLemmas.{keeps-near, left-near, lies-still, remain-from}
 use Rattle.world.proofs.CommittingLemmas.{CommittingRefines-grows}
 use Rattle.world.proofs.LinkLemmas.{LinkRefines-grows}
-use Rattle.world.proofs.DownLemmas.{Opens-down}
-use Rattle.world.specs.Condition.{has_ended, runs}
-use Rattle.world.specs.declared.condition.Condition.{Condition}
-use Rattle.world.specs.declared.condition.Condition.TheVariants.{Running, Stopped, Crashed, Ended}
-use Rattle.world.specs.declared.condition.AskedFences.{AskedFences}
+use Rattle.follower.proofs.DownLemmas.{Opens-down}
+use Rattle.follower.specs.Condition.{has_ended, runs}
+use Rattle.follower.specs.declared.condition.Condition.{Condition}
+use Rattle.follower.specs.declared.condition.Condition.TheVariants.{Running, Stopped, Crashed, Ended}
+use Rattle.world.specs.declared.asked_fences.AskedFences.{AskedFences}
 
 -- ---- what stands
 

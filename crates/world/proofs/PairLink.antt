@@ -9,14 +9,14 @@ use Rattle.machine.specs.Event.{Primary, counts as machine_counts, may_send, fra
 use Rattle.machine.specs.Sound.{IsToldWithin}
 use Rattle.world.proofs.AroundLemmas.{around-sent}
 use Rattle.world.proofs.LivesLemmas.{nodes-refine, own-runs}
-use Rattle.world.specs.Condition.{has_ended}
+use Rattle.follower.specs.Condition.{has_ended}
 use Rattle.world.specs.Link.{IsFrameOf, AreFramesOf, IsFrameSent, IsOwn, IsAckSent, AreFramesSent, LinkRefines}
 use Rattle.world.specs.Recalling.{OpeningLeads}
-use Rattle.world.specs.Standby.{told_by}
+use Rattle.follower.specs.Standby.{told_by}
 use Rattle.world.specs.Pair.{Does, FreeingRefines, Pair, PairRefines, PartsRefine, Steps}
-use Rattle.world.proofs.FrameLemmas.{AreFramesSent-push, may_be_sent, ack_of_read, ack_of_number, length-acks}
+use Rattle.follower.proofs.FrameLemmas.{AreFramesSent-push, may_be_sent, ack_of_read, ack_of_number, length-acks}
 use Rattle.world.proofs.LinkLemmas.{Answers as LinkAnswers, sends, knows}
-use Rattle.world.proofs.ArrivalLemmas.{ReadsAs, same_found}
+use Rattle.follower.proofs.ArrivalLemmas.{ReadsAs, same_found}
 use Rattle.world.proofs.RecallLemmas.{opening-forgotten}
 use Rattle.world.proofs.PairLemmas.{cut-same, goes-steps, reach-below, stays-does, tells, steps-only, cut-only}
 

@@ -5,7 +5,7 @@ use Rattle.machine.specs.declared.event.Cut.TheVariants as cut
 use Rattle.world.specs.Pair.{Acts, AreLives, Does, NodesRefine, Pair, takes_part, Lives}
 use Rattle.world.proofs.LivesLemmas.{retired-as, running-as, serves-as}
 use Rattle.world.proofs.PairLemmas.{steps-none, steps-only}
-use Rattle.world.specs.Condition.{has_ended, runs}
+use Rattle.follower.specs.Condition.{has_ended, runs}
 
 -- the nodes of an event run just where they are said to
 nodes-take : {first second : Holder} {lives : Lives} {w : World} → AreLives first second lives w → (event : Event) → nodes_run w event ≡ takes_part (runs lives.primary) (runs lives.standby) event

@@ -8,16 +8,16 @@ use Rattle.machine.specs.declared.event.Node.TheVariants as node
 use Rattle.machine.proofs.SureLemmas.{unfailed}
 use Rattle.world.specs.Cause.{Promoting}
 use Rattle.world.specs.Committing.{OpensAsEither, OpensAt, next_standby, promoted_holder}
-use Rattle.world.specs.Condition.{has_ended, runs}
-use Rattle.world.specs.declared.condition.Condition.TheVariants.{Crashed, Ended}
+use Rattle.follower.specs.Condition.{has_ended, runs}
+use Rattle.follower.specs.declared.condition.Condition.TheVariants.{Crashed, Ended}
 use Rattle.world.specs.Pair.{ToldAs, Acts, AreLives, HasStandby, IsPromotionCut, NodesRefine, Pair, Succeeds, first_device, second_device, Lives, Clients, ClientsRefine, Serving}
 use Rattle.world.specs.Remaining.{OpensAsOne, OpensNear}
-use Rattle.world.specs.Standby.{Arrived, Node}
+use Rattle.follower.specs.Standby.{Arrived, Node}
 use Rattle.world.specs.Step.{IsStep}
 use Rattle.world.proofs.AroundLemmas.{around-stands}
-use Rattle.world.proofs.KeptLemmas.{KeepsAsEither}
+use Rattle.follower.proofs.KeptLemmas.{KeepsAsEither}
 use Rattle.world.proofs.LivesLemmas.{not-over, retired-as, running-as}
-use Rattle.world.proofs.OpenedLemmas.{IsNotOpened, IsOpened, opened-stands}
+use Rattle.follower.proofs.OpenedLemmas.{IsNotOpened, IsOpened, opened-stands}
 use Rattle.world.proofs.PairFallen.{devices-are, promoted-stands}
 use Rattle.world.proofs.PairLemmas.{does-step, none-added, told-as}
 use Rattle.world.proofs.PairReopen.{Begins, primary-reopens, with_opened_primary}

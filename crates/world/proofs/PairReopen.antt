@@ -18,18 +18,18 @@ use Rattle.primary.proofs.OpenedLemmas.{leads_to}
 use Rattle.world.specs.Recalling.{OpeningLeads, RemembersFor, past_of}
 use Rattle.world.proofs.AroundLemmas.{around-stands}
 use Rattle.world.proofs.RecallLemmas.{remembered-from, have_their_lines, in_order}
-use Rattle.world.specs.Standby.{Node, StandbyRefines, StandbyStands}
+use Rattle.follower.specs.Standby.{Node, StandbyRefines, StandbyStands}
 use Rattle.world.specs.Pair.{Acts, AreLives, DownRefine, EitherRefines, IsCut, NodesRefine, Pair, PartsRefine, Steps, Lives, Serving, SurroundingsRefine, surroundings_of, surroundings_in}
-use Rattle.world.proofs.DownLemmas.{restart-refused}
+use Rattle.follower.proofs.DownLemmas.{restart-refused}
 use Rattle.world.proofs.FormLemmas.{committing-nothing, leads-nothing}
 use Rattle.world.proofs.PairLemmas.{Led, cut-for, rests-primary, rests-standby, tells, moves-primary, moves-standby, does-step, steps-to, steps-only, cut-only}
-use Rattle.world.proofs.OpenedLemmas.{IsNotOpened, IsOpened, opened-breaks, opened-floor, opened-gaps, opened-limit, opened-moves, opened-rests, opened-stands, table-there}
+use Rattle.follower.proofs.OpenedLemmas.{IsNotOpened, IsOpened, opened-breaks, opened-floor, opened-gaps, opened-limit, opened-moves, opened-rests, opened-stands, table-there}
 use Rattle.world.proofs.PairLives.{stays-acts}
 use Rattle.world.proofs.PairStandby.{standby-either}
 use Rattle.world.proofs.LivesLemmas.{crashed-not-over, still-not-crashed, not-crashed, crashed-as}
-use Rattle.world.specs.Condition.{has_crashed}
-use Rattle.world.specs.declared.condition.Condition.{Condition}
-use Rattle.world.specs.declared.condition.Condition.TheVariants.{Running}
+use Rattle.follower.specs.Condition.{has_crashed}
+use Rattle.follower.specs.declared.condition.Condition.{Condition}
+use Rattle.follower.specs.declared.condition.Condition.TheVariants.{Running}
 use Rattle.world.proofs.RemainLemmas.{near-from}
 use Rattle.world.proofs.LinkLemmas.{link-nothing}
 

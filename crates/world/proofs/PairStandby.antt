@@ -12,17 +12,17 @@ use Rattle.world.proofs.AroundLemmas.{around-stands, around-standby}
 use Rattle.world.proofs.LivesLemmas.{Runs, enabled-is, lives-like, nodes-refine, not-crashed, not-over, running-as, serving, taken-life, taken-role, not-still, stopped-still}
 use Rattle.world.specs.Cause.{Stretch, Breaks, RestsAtFrameLimit, EndsBy, Resting}
 use Rattle.world.specs.Committing.{NearOnly, Moves, next_standby}
-use Rattle.world.specs.Following.{HasFollower}
+use Rattle.follower.specs.Following.{HasFollower}
 use Rattle.world.specs.Link.{IsFrameOf, IsOwn, AreFramesOf, LinkRefines, AreFramesSent}
 use Rattle.world.specs.Recalling.{OpeningLeads, past_of}
-use Rattle.world.specs.Standby.{Arrived, Node, StandbyStands, StandbyRefines, ArrivalsRefine, AppliesFirst, told_by}
+use Rattle.follower.specs.Standby.{Arrived, Node, StandbyStands, StandbyRefines, ArrivalsRefine, AppliesFirst, told_by}
 use Rattle.world.specs.Pair.{Pair, EitherRefines, NodesRefine, PartsRefine, PairRefines, Steps, Acts, Does, Wire, AroundRefines}
-use Rattle.world.proofs.FrameLemmas.{length-sent}
+use Rattle.follower.proofs.FrameLemmas.{length-sent}
 use Rattle.world.proofs.PairLemmas.{Led, cut-for, cut-same, goes-either, goes-map, goes-steps, rests-primary, tells, moves-standby, does-step, steps-to, steps-none, steps-only, cut-only}
 use Rattle.world.proofs.PairLink.{link-alone}
 use Rattle.world.proofs.RecallLemmas.{opening-on, recalled-on, remembered-on}
-use Rattle.world.specs.Condition.{has_ended, runs}
-use Rattle.world.specs.declared.condition.Condition.{Condition}
+use Rattle.follower.specs.Condition.{has_ended, runs}
+use Rattle.follower.specs.declared.condition.Condition.{Condition}
 use Rattle.world.proofs.RemainLemmas.{near-from, left-later}
 
 -- ---- the standby

@@ -5,13 +5,13 @@ use Rattle.world.proofs.Words.{LeavesOnly-weaken, or_right}
 use Rattle.machine.specs.declared.event.Cut.TheVariants as cut
 use Rattle.machine.specs.declared.event.Event.TheVariants as events
 use Rattle.machine.specs.declared.event.Node.TheVariants as node
-use Rattle.world.specs.Condition.{has_ended, has_stopped, runs}
+use Rattle.follower.specs.Condition.{has_ended, has_stopped, runs}
 use Rattle.world.specs.Effect.{LeavesPicked}
 use Rattle.world.specs.Pair.{NodesRefine, Pair, Clients, Serving, Steps}
 use Rattle.world.specs.Remaining.{LeftBy, KeepsOne, OpensNear}
 use Rattle.world.specs.Step.{IsStep}
-use Rattle.world.specs.declared.condition.Condition.{Condition}
-use Rattle.world.specs.declared.condition.Condition.TheVariants.{Running, Stopped}
+use Rattle.follower.specs.declared.condition.Condition.{Condition}
+use Rattle.follower.specs.declared.condition.Condition.TheVariants.{Running, Stopped}
 use Rattle.world.proofs.LivesLemmas.{still-as, stopped-as, stopped-not-over}
 use Rattle.world.proofs.PairCrash.{HasCrashed, crash-enabled, with_crashed_primary}
 use Rattle.world.proofs.PairCut.{EndsThere, falls, primary-falls}

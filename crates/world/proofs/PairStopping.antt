@@ -13,7 +13,7 @@ use Rattle.world.specs.Pair.{AreLives, HasWorld, NodesRefine, Pair, Steps, Still
 use Rattle.world.specs.Remaining.{LeftBy, OpensNear}
 use Rattle.world.specs.Step.{AcksBy, FramesBy, IsStep}
 use Rattle.world.specs.Stopping.{BreaksPrimary, call_of}
-use Rattle.world.specs.declared.condition.Condition.TheVariants as conditions
+use Rattle.follower.specs.declared.condition.Condition.TheVariants as conditions
 use Rattle.world.proofs.DeviceLemmas.{on-stop}
 use Rattle.world.proofs.LivesLemmas.{stopped-as}
 use Rattle.world.proofs.PairLemmas.{does-step, moved-primary, steps-to, steps-only}

@@ -5,11 +5,11 @@ use Rattle.world.proofs.Words.{and_parts, LeavesOnly-weaken}
 use Rattle.machine.specs.declared.event.Cut.TheVariants as cuts
 use Rattle.machine.specs.declared.event.Node.TheVariants as node
 use Rattle.machine.specs.Event.{Fails as MachineFails}
-use Rattle.world.specs.Condition.{has_ended, has_stopped, life_as, has_crashed, runs}
-use Rattle.world.specs.declared.condition.Condition.TheVariants.{Stopped, Running}
+use Rattle.follower.specs.Condition.{has_ended, has_stopped, life_as, has_crashed, runs}
+use Rattle.follower.specs.declared.condition.Condition.TheVariants.{Stopped, Running}
 use Rattle.world.specs.Pair.{AreLives, EitherRefines, HasStandby, HasWorld, NodesRefine, Pair, Steps, StillRefine, Lives}
 use Rattle.world.specs.Remaining.{KeepsOne, OpensNear}
-use Rattle.world.specs.Standby.{Arrived, ArrivalsRefine, StandbyRefines, Node, StandbyStands}
+use Rattle.follower.specs.Standby.{Arrived, ArrivalsRefine, StandbyRefines, Node, StandbyStands}
 use Rattle.world.specs.Step.{AcksBy, FramesBy, IsStep}
 use Rattle.world.specs.Stopping.{BreaksPromotion, BreaksStandby, Fails, call_of}
 use Rattle.world.proofs.AroundLemmas.{around-stands, around-standby, arrivals-lost}
@@ -22,10 +22,10 @@ use Rattle.world.proofs.StepLemmas.{stopped-is}
 use Rattle.world.proofs.StopLemmas.{StopsThere, stops-standby}
 use Rattle.world.specs.Cause.{Breaks, EndsBy}
 use Rattle.world.specs.Committing.{Committing, next_standby}
-use Rattle.world.specs.Following.{HasFollower}
-use Rattle.world.specs.declared.condition.Condition.{Condition}
-use Rattle.world.proofs.KeptLemmas.{KeepsAsEither, keeps-either, keeps-here, keeps-left, restart-keeps}
-use Rattle.world.proofs.OpenedLemmas.{StaysSo}
+use Rattle.follower.specs.Following.{HasFollower}
+use Rattle.follower.specs.declared.condition.Condition.{Condition}
+use Rattle.follower.proofs.KeptLemmas.{KeepsAsEither, keeps-either, keeps-here, keeps-left, restart-keeps}
+use Rattle.follower.proofs.OpenedLemmas.{StaysSo}
 use Rattle.world.proofs.PairReopen.{with_standby_node}
 
 -- ---- the event

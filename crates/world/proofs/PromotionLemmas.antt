@@ -7,12 +7,12 @@ use Rattle.wbl_engine.proofs.PromotingLemmas.{consistent_promoted, lawful_promot
 use Rattle.world.specs.Cause.{Promoting}
 use Rattle.world.specs.Committing.{AreContentsAt, EngineStands, IsDown, OpensAsEither, OpensAt, promoted_holder}
 use Rattle.world.specs.Link.{AreFramesSent}
-use Rattle.world.proofs.DownLemmas.{restart-moments, restart-refused, settled-image}
+use Rattle.follower.proofs.DownLemmas.{restart-moments, restart-refused, settled-image}
 use Rattle.world.proofs.EngineLemmas.{Opens-engine}
-use Rattle.world.proofs.KeptLemmas.{KeepsAsEither, engine-keeps, restart-promoted}
-use Rattle.world.proofs.OpenedLemmas.{IsNotOpened, StaysSo}
+use Rattle.follower.proofs.KeptLemmas.{KeepsAsEither, engine-keeps, restart-promoted}
+use Rattle.follower.proofs.OpenedLemmas.{IsNotOpened, StaysSo}
 use Rattle.world.proofs.RemainLemmas.{kept-opens}
-use Rattle.world.proofs.RoleLemmas.{newcomer_follows, newcomer_or}
+use Rattle.follower.proofs.RoleLemmas.{newcomer_follows, newcomer_or}
 
 -- ---- the wire
 

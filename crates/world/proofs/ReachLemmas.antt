@@ -3,7 +3,7 @@ use Rattle.world.specs.Words.{Apply, Event, Global, Holder, last_world, OpenLink
 use Rattle.world.proofs.Words.{retired-still}
 use Rattle.std.proofs.Common.{Vec, ◌≡◌, ℕ, if◌then◌else◌, Bool, List, [], ◌∷◌, ◌++◌, Ok, Err, refl, sym, ap, subst, ◌∙◌, inl, inr, true, false, true≢false}
 use Rattle.machine.proofs.RunLemmas.{last_world-push, run-push}
-use Rattle.world.specs.Condition.{has_ended}
+use Rattle.follower.specs.Condition.{has_ended}
 use Rattle.world.specs.Headline.{AreMoves, IsCutAfter, Moved, StandsAfter, StandsIn, start}
 use Rattle.world.specs.Pair.{HasRoom, HasWorld, NodesRefine, Pair, first_device, second_device}
 use Rattle.world.specs.Step.{AcksBy, FramesBy, IsStep, touches_standby}

@@ -1,5 +1,5 @@
 -- What the image of a node may hold in which a fence failed: how it opens, and while the list grows or is cut.
-use Rattle.std.proofs.Common.{◌≡◌, ◌⊎◌, inl, inr, ℕ, zero, suc, ◌<◌, ◌≤◌, List, [], ◌∷◌, ◌++◌, length, get_or, append-nil, refl, sym, ap, subst, ◌∙◌, arith, le_refl}
+use Rattle.std.proofs.Common.{◌≡◌, inl, inr, ℕ, ◌≤◌, List, [], ◌∷◌, ◌++◌, append-nil, refl, sym, ap, subst, ◌∙◌, arith, le_refl}
 use Rattle.std.specs.Prelude.{All, Contains}
 use Rattle.world.specs.Words.{AsFollower, AsPrimary, At, Call, Contents, Cut, cut_at, Holder, Image, IsImage, IsStandbyLeft, left_by, may_remain, position_of, Remains, Role, State, torn, World}
 use Rattle.world.proofs.Words.{All-cons, AreContentsAt-grows, LeavesOnly-weaken}
@@ -10,27 +10,13 @@ use Rattle.machine.specs.Event.{Primary}
 use Rattle.world.specs.Cause.{OrLies, Resting}
 use Rattle.world.specs.Recalling.{RecallsFor, past_of}
 use Rattle.world.specs.Committing.{AreContentsAt, Moves, Opens, OpensAt, OpensAtEither, promoted_holder}
-use Rattle.world.specs.Remaining.{KeepsAs, KeepsAt, KeepsOne, LeavesOne, LeftBy, MovesNear, OpensAs, OpensAsOne, OpensNear, Remain}
+use Rattle.world.specs.Remaining.{KeepsAs, KeepsAt, KeepsOne, LeavesOne, LeftBy, MovesNear, OpensAsOne, OpensNear, Remain}
 use Rattle.world.proofs.CutLemmas.{AreContentsAt-cut}
 use Rattle.world.proofs.EngineLemmas.{keeps-opens, rests-same}
 use Rattle.world.proofs.RecallLemmas.{recalled-on}
+pub use Rattle.follower.proofs.RemainLemmas.{keeps-near, kept-opens, one-of, one-opens}
 
 -- ---- how it opens
-
-pub one-of : (first : Remains) (others : List Remains) (one : Remains) → Contains (first ∷ others) one → (first ≡ one) ⊎ Contains others one
-one-of first others one is = by is.0 is.1 is.2
-  where
-    by : (k : ℕ) → k < length (first ∷ others) → get_or (first ∷ others) k one ≡ one → (first ≡ one) ⊎ Contains others one
-    by zero within at = inl at
-    by (suc k) within at = inr (k, omega (arith, within), at)
-
--- as what is one of these
-pub one-opens : (holder : Holder) (calls : List Call) (p : ℕ) (remains : List Remains) (one : Remains) (image : Image) → Contains remains one → OpensAs holder calls p image one → OpensAsOne holder calls p remains image
-one-opens holder calls p [] one image is opens = absurd (let within = is.1 in omega (arith, within))
-one-opens holder calls p (first ∷ others) one image is opens = elim (one-of first others one is) [
-  | inl same ↦ inl (subst (OpensAs holder calls p image) (sym same) opens)
-  | inr later ↦ inr (one-opens holder calls p others one image later opens)
-]
 
 -- as one of more
 pub opens-more : (holder : Holder) (calls : List Call) (p : ℕ) (before remains : List Remains) (image : Image) → OpensNear holder calls p remains image → OpensNear holder calls p (before ++ remains) image
@@ -40,18 +26,6 @@ opens-more holder calls p before remains image (inr one) = inr (later before)
     later : (before : List Remains) → OpensAsOne holder calls p (before ++ remains) image
     later [] = one
     later (first ∷ others) = inr (later others)
-
-pub kept-opens : (holder : Holder) (calls : List Call) (p : ℕ) (image : Image) → KeepsAt holder calls p image → OpensAt holder calls p image
-kept-opens holder calls p image held = keeps-opens holder calls p held.contents image held.contents_at held.lawful held.keeps
-
-kept-as : (holder : Holder) (calls : List Call) (p : ℕ) (one : Remains) (image : Image) → KeepsAs holder calls p one image → OpensAs holder calls p image one
-kept-as holder calls p (At q) image held = kept-opens holder calls q image held
-kept-as holder calls p (AsFollower q) image held = kept-opens holder calls q image held
-kept-as holder calls p AsPrimary image held = kept-opens (promoted_holder holder) calls p image held.kept
-
--- a standby's
-pub keeps-near : (holder : Holder) (calls : List Call) (p : ℕ) (others : List Remains) (image : Image) → KeepsOne holder calls p others image → OpensNear holder calls p others image
-keeps-near holder calls p others image held = one-opens holder calls p (At p ∷ others) held.one image held.is_one (kept-as holder calls p held.one image held.keeps)
 
 -- a primary's
 pub left-opens : (holder : Holder) (w : World) (call : Cut) (image : Image) → LeftBy holder w call image

@@ -18,7 +18,7 @@ use Rattle.world.specs.declared.history.History.{History}
 use Rattle.world.proofs.StepLemmas.{messages-sent}
 use Rattle.world.proofs.PairLemmas.{primary-stands, rests-primary, rests-standby, told-as}
 use Rattle.world.proofs.RemainLemmas.{lies-still}
-use Rattle.world.specs.Condition.{has_ended}
+use Rattle.follower.specs.Condition.{has_ended}
 use Rattle.world.proofs.MomentLemmas.{IsFinal, moments-from}
 use Rattle.world.proofs.GoingLemmas.{place, placed, primary-holds, standby-holds}
 

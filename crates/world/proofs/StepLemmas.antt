@@ -16,7 +16,7 @@ use Rattle.world.proofs.GoingLemmas.{goes-ahead, steps-on}
 use Rattle.world.proofs.LivesLemmas.{nodes-refine, serves-as}
 use Rattle.world.proofs.PairLemmas.{primary-stands, roomier-stands, standby-stands, stays-does}
 use Rattle.world.proofs.PairLives.{idle-step, own-acts}
-use Rattle.world.specs.Condition.{has_ended, runs}
+use Rattle.follower.specs.Condition.{has_ended, runs}
 
 -- ---- what can be seen
 

@@ -1,7 +1,6 @@
 -- How the committer and its engine refine the machine's.
-use Rattle.std.specs.Prelude.{◌≡◌, ◌⊎◌, ℕ, ◌+◌, ◌≤◌, Bool, true, false, nat_lt, List, [], ◌∷◌, length}
-use Rattle.world.specs.Words.{AreGroupsOf, AreLawful, AreWorkOf, Call, Contents, Due, Durable, Event, FreeList, Group, Holder, Image, image_of, IsFormatting, IsImage, IsSettled, IsUndamaged, Keeps, LeavesOnly, MachineCommitter, MachineStage, positions_of_lists, Ready, Shown, Stage, State, Waiting, Work}
-use Rattle.model.specs.Standing.{StandsAt}
+use Rattle.std.specs.Prelude.{◌≡◌, ◌⊎◌, ℕ, ◌≤◌, Bool, true, false, nat_lt, List, [], ◌∷◌, length}
+use Rattle.world.specs.Words.{AreGroupsOf, AreWorkOf, Call, Due, Durable, Event, FreeList, Group, Holder, Image, IsFormatting, LeavesOnly, MachineCommitter, MachineStage, positions_of_lists, Ready, Shown, Stage, State, Waiting, Work}
 use Rattle.model.specs.declared.record.Role.{Role}
 use Rattle.model.specs.declared.record.TheConstants.{FIRST_EPOCH}
 use Rattle.pipes.specs.declared.limits.TheConstants.{PIPE_ITEMS}
@@ -11,56 +10,16 @@ use Rattle.machine.specs.declared.event.Event.TheVariants as events
 use Rattle.machine.specs.World as machine_stage
 -- where the nodes stand after the group that the primary commits next, and after the frame that the standby takes next
 pub use Rattle.machine.specs.Event.{next_primary}
-pub use Rattle.world.specs.Following.{next_from, next_standby}
+pub use Rattle.follower.specs.Following.{next_from, next_standby}
 pub use Rattle.node_steps.specs.Committing.{AreContentsAt, EngineStands}
+pub use Rattle.follower.specs.Images.{IsDown, Moves, NearOnly, Opens, OpensAt, OpensAtEither, Rests, promoted_holder}
 pub use Rattle.primary.specs.Leading.{AreOfEpoch, Leads, entries_told, extents_told}
 
 -- ---- the engine
 
--- the image of a node that crashed: each word has one candidate, and it holds contents at this position of the list, which obey the rules
-pub record IsDown (holder : Holder) (calls : List Call) (position : ℕ) (device : State) : Type 0 where
-  pub contents : Contents
-  pub contents_at : AreContentsAt holder calls position contents
-  pub lawful : AreLawful contents
-  pub keeps : Keeps contents (image_of device.words)
-  pub settled : IsSettled device.words
-  pub sized : contents.lines ≡ device.lines
-
--- The image opens at this position of the list: it stands there as its holder's, and breaks no rule of the format. So its node, when it opens it again, is
--- not refused it as damaged, nor as one of the other role.
-pub record OpensAt (holder : Holder) (calls : List Call) (position : ℕ) (image : Image) : Type 0 where
-  pub stands : StandsAt holder calls position image
-  pub undamaged : IsUndamaged holder.lines stands.current image
-
--- each crash now leaves an image that opens at this position of the list, as its holder's
-abbrev pub Opens : Holder → List Call → ℕ → State → Type 0
-Opens holder calls position device = (image : Image) → IsImage device.words image → OpensAt holder calls position image
-
--- the image opens at one of these two positions of the list
-abbrev pub OpensAtEither : Holder → List Call → ℕ → ℕ → Image → Type 0
-OpensAtEither holder calls position next image = OpensAt holder calls position image ⊎ OpensAt holder calls next image
-
--- each crash between these two states of a device leaves an image that opens at one of these two positions of the list
-abbrev pub NearOnly : Holder → List Call → ℕ → ℕ → State → State → Type 0
-NearOnly holder calls position next old new = LeavesOnly old new (OpensAtEither holder calls position next)
-
 -- each crash between these two states of a device leaves an image that opens at this position of the list, or at a later one
 abbrev pub FromOnly : Holder → List Call → ℕ → State → State → Type 0
 FromOnly holder calls position old new = LeavesOnly old new (λ image. (p : ℕ) × (position ≤ p) × OpensAt holder calls p image)
-
--- each crash between these two states of a device leaves an image that opens at one of these two positions of the list, and no fence failed
-pub record Moves (holder : Holder) (calls : List Call) (from to : ℕ) (old new : State) : Type 0 where
-  pub leaves : NearOnly holder calls from to old new
-  pub failures : new.failures ≡ old.failures
-
--- each crash between these two states of a device leaves an image that opens at this position of the list, and no fence failed
-pub record Rests (holder : Holder) (calls : List Call) (position : ℕ) (old new : State) : Type 0 where
-  pub leaves : LeavesOnly old new (OpensAt holder calls position)
-  pub failures : new.failures ≡ old.failures
-
--- whose image it is once a standby with this one was promoted
-abbrev pub promoted_holder : Holder → Holder
-promoted_holder holder = record holder { role = Role.Primary; epoch = holder.epoch + 1 }
 
 -- the image opens at this position of the list, as that of this standby, or of the primary of the next epoch
 abbrev pub OpensAsEither : Holder → List Call → ℕ → Image → Type 0

@@ -4,7 +4,7 @@ use Rattle.world.specs.Words.{AddsOne, Cut, cut_at, Due, HasSeat, image_of, IsUn
 use Rattle.model.specs.declared.record.Role.TheVariants as Role
 use Rattle.group_commit.specs.declared.due.Due.TheVariants as due
 use Rattle.machine.specs.declared.event.Cut.TheVariants as cut
-use Rattle.world.specs.declared.condition.Condition.TheVariants as conditions
+use Rattle.follower.specs.declared.condition.Condition.TheVariants as conditions
 pub use Rattle.world.specs.Remaining.{OpensAs, OpensAsOne, OpensNear}
 use Rattle.world.specs.Pair.{ClientsRefine, Pair}
 

@@ -1,28 +1,17 @@
 -- What an event has to do beside its step of the machine: to what has ended and to what tells of it, to a frame, to an image that crashes or is opened again, and to a
 -- device that is asked to fail.
-use Rattle.std.specs.Prelude.{◌≡◌, ◌⊎◌, ℕ, ◌+◌, ◌==◌, if◌then◌else◌, Bool, true, false, List, [], ◌∷◌, ◌++◌, Some, None, Vec, Result, Ok}
-use Rattle.world.specs.Words.{Apply, ClearGap, Clears, CloseGroup, ClosesOne, Contents, Crash, Cut, Event, FailFence, floor_raised, Frame, Free, Freed, FreeList, Global, image_of, IsImage, IsOver, IsReopened, IsSettled, IsTakenNext, moment, newest_at, picked, Refusal, Reopen, Same, Sequencing, State, TakesBack, words_to_crash}
+use Rattle.std.specs.Prelude.{◌≡◌, ℕ, ◌+◌, ◌==◌, if◌then◌else◌, Bool, List, [], ◌∷◌, ◌++◌, Some, None, Result}
+use Rattle.world.specs.Words.{Apply, ClearGap, Clears, CloseGroup, ClosesOne, Contents, Crash, Cut, Event, FailFence, floor_raised, Free, Freed, FreeList, image_of, IsOver, IsReopened, Refusal, Reopen, Same, Sequencing, State, TakesBack}
 use Rattle.pmem.specs.Device.Fences.{Sure}
-use Rattle.pmem.specs.Runs.{HasPassed}
 use Rattle.model.specs.declared.record.Role.TheVariants as Role
-use Rattle.placing.specs.Place.{HasRoomFor}
 use Rattle.wbl_engine.specs.Freeing.{after_free, extents_of}
-use Rattle.standby.specs.Following.{NoGapIsLeft}
 use Rattle.machine.specs.declared.event.Cut.TheVariants as cut
 use Rattle.machine.specs.declared.event.Event.TheVariants.{AcceptFreed}
 use Rattle.machine.specs.declared.event.Node.TheVariants as node
 use Rattle.world.specs.Committing.{reached_now}
 use Rattle.world.specs.Pair.{Pair, second_device}
-use Rattle.world.specs.Standby.{Node}
-
--- a fact that holds where an event did its step
-abbrev pub OnDid : Result Bool Refusal → Type 0 → Type 0
-OnDid (Ok true) P = P
-OnDid result P = Unit {0}
-
--- the bytes of one message came behind those of all before
-abbrev pub AddsMessage : List (Vec ℕ Global) → List (Vec ℕ Global) → Type 0
-AddsMessage old new = (bytes : Vec ℕ Global) × (new ≡ old ++ bytes ∷ [])
+pub use Rattle.follower.specs.Crashing.{LeavesCut, LeavesPicked}
+pub use Rattle.follower.specs.Taking.{AddsMessage, AnswersFirst, IsFullFor, OnDid}
 
 -- ---- what has ended
 
@@ -52,32 +41,7 @@ pub record TakesOldest (old : Sequencing) (notices : List Freed) (new : Sequenci
 
 -- ---- a frame
 
--- a standby has no room for the puts of the frame, nothing that has ended is left to free, and no gap to clear
-pub record IsFullFor (frame : Frame) (node : Node) : Type 0 where
-  pub room : ¬ HasRoomFor node.room frame.changes.items
-  pub freed : node.ended ≡ []
-  pub gaps : NoGapIsLeft node.contents.current node.room frame
-
--- the standby took the first frame that came: one that comes next it acknowledges, unless it has no room for it
-abbrev pub AnswersFirst : List Frame → List (Vec ℕ Global) → List (Vec ℕ Global) → Node → Node → Type 0
-AnswersFirst [] told told' old new = Unit {0}
-AnswersFirst (frame ∷ frames) told told' old new = IsTakenNext old.contents.current frame → AddsMessage told told' ⊎ IsFullFor frame new
-
 -- ---- a crash
-
--- Each word has the candidate that the picks name, where the device had the memory to do so, and some candidate of its own in any case.
-pub record LeavesPicked (picks : List ℕ) (old new : State) : Type 0 where
-  pub settled : IsSettled new.words
-  pub image : IsImage old.words (image_of new.words)
-  pub picked_are : new.starved ≡ false → (word : ℕ) → newest_at new word ≡ picked old.words picks word
-
--- The device went on from `old`, and crashed as of k calls of it after that: each word has the candidate of that moment that the picks name, where the device had the memory to do so.
--- Where fewer calls were made it crashed at the end of them.
-pub record LeavesCut (k : ℕ) (picks : List ℕ) (old new : State) : Type 0 where
-  pub settled : IsSettled new.words
-  pub last : State
-  pub went : HasPassed old last
-  pub picked_are : new.starved ≡ false → (word : ℕ) → newest_at new word ≡ picked (words_to_crash last (Some (moment old + k))) picks word
 
 -- between two events, and then no fence failed; or inside a call
 abbrev pub LeavesOf : Cut → ℕ → List ℕ → State → State → Type 0

@@ -5,7 +5,7 @@ use Rattle.machine.specs.declared.event.Node.TheVariants as node
 use Rattle.machine.specs.Event.{start_with}
 use Rattle.world.specs.Committing.{OpensAt, FormattingOnly, next_primary, next_standby, promoted_holder}
 use Rattle.world.specs.Cause.{Stretch, OrLies, Promoting, Resting, UnformedBy, EndsBy}
-use Rattle.world.specs.Condition.{has_ended}
+use Rattle.follower.specs.Condition.{has_ended}
 use Rattle.world.specs.Remaining.{OpensNear, cut_short, is_cut, stops_between}
 use Rattle.world.specs.Link.{AreAcksSent, AreFramesSent}
 use Rattle.world.specs.Pair.{HasStandby, Pair, NodesRefine, IsCut, IsPromotionCut, allowed, first_device, second_device}

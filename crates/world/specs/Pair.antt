@@ -7,14 +7,14 @@ use Rattle.machine.specs.declared.event.Node.TheVariants as node
 use Rattle.machine.specs.Event.{Frame}
 use Rattle.world.specs.Cause.{EndsBy, OrLies, Promoting}
 use Rattle.world.specs.Committing.{Committing, EngineStands, IsDown, Leads, OpensAt, CommittingRefines, next_primary, next_standby, promoted_holder}
-use Rattle.world.specs.Condition.{has_crashed, has_ended, is_still, life_as, runs}
-use Rattle.world.specs.declared.condition.AskedFences.{AskedFences}
-use Rattle.world.specs.declared.condition.Condition.{Condition}
+use Rattle.follower.specs.Condition.{has_crashed, has_ended, is_still, life_as, runs}
+use Rattle.world.specs.declared.asked_fences.AskedFences.{AskedFences}
+use Rattle.follower.specs.declared.condition.Condition.{Condition}
 pub use Rattle.node_steps.specs.Node.{FreeingRefines}
 use Rattle.world.specs.Link.{IsOwn, AreFramesSent, LinkRefines}
 use Rattle.world.specs.Recalling.{OpeningLeads, RecallsFor, RemembersFor, past_of}
 use Rattle.world.specs.Remaining.{LeftBy, MovesAs, OpensNear, cut_short, is_cut}
-use Rattle.world.specs.Standby.{Arrived, Node, StandbyRefines, ArrivalsRefine}
+use Rattle.follower.specs.Standby.{Arrived, Node, StandbyRefines, ArrivalsRefine}
 
 -- ---- what a pair is made of
 

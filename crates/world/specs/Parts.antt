@@ -2,7 +2,7 @@
 use Rattle.std.specs.Prelude.{Bool, List}
 use Rattle.world.specs.Words.{Committer, Contents, Freed, Group, Sequencing, State, Table, Waiting, Work}
 use Rattle.world.specs.Pair.{Pair, Serving}
-use Rattle.world.specs.Standby.{arrived_with, node_at}
+use Rattle.follower.specs.Standby.{arrived_with, node_at}
 use Rattle.world.specs.declared.history.History.{History}
 use Rattle.world.specs.declared.pair.Pair.{Pair as Code}
 

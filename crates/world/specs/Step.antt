@@ -1,11 +1,11 @@
 -- What one event does to a pair of nodes: one step of the machine, with both devices before it and after it, and all that it gave to anyone.
 use Rattle.std.specs.Prelude.{◌≡◌, ◌⊎◌, ℕ, ◌<◌, ◌≤◌, ◌&&◌, nat_eq, Contains, if◌then◌else◌, Bool, true, false, List, [], ◌∷◌, ◌++◌, take, slice_index_or, Vec, vec_len, vec_capacity, Result, Ok, Err, IfOk, IfErr}
-use Rattle.world.specs.Words.{AddsOne, Apply, AsFollower, AsPrimary, At, Call, Connection, connection_of, Crash, cut_at, Event, Global, Holder, IsReleased, may_remain, Memory, OpenLink, position_of, Promote, Refusal, released_in, released_of, Remains, safe_position, Send, torn, touches, Transcript, Turn, World, Write}
+use Rattle.world.specs.Words.{AddsOne, AsFollower, AsPrimary, At, Call, Connection, connection_of, Crash, cut_at, Event, Global, Holder, IsReleased, may_remain, Memory, position_of, Promote, Refusal, released_in, released_of, Remains, safe_position, Send, torn, touches, Transcript, Turn, World, Write}
 use Rattle.model.specs.Call.{MayReply, state_after}
 use Rattle.machine.specs.declared.event.Node.TheVariants as node
 use Rattle.connections.specs.Session.{TranscriptRefines}
-use Rattle.world.specs.Condition.{has_ended}
-pub use Rattle.world.specs.Effect.{AddsMessage}
+use Rattle.follower.specs.Condition.{has_ended}
+pub use Rattle.follower.specs.Taking.{AcksBy, AddsMessage}
 use Rattle.world.specs.Effect.{Effect}
 use Rattle.world.specs.Headline.{GoesOn, StandsIn}
 use Rattle.world.specs.Link.{AreAcksSent, AreFramesSent}
@@ -32,12 +32,6 @@ has_begun (Err refusal) = true
 abbrev pub FramesBy : Event → Result Bool Refusal → List (Vec ℕ Global) → List (Vec ℕ Global) → Type 0
 FramesBy Send (Ok true) old new = AddsMessage old new
 FramesBy event result old new = new ≡ old
-
--- What an event does to the acknowledgements that were made: the standby makes one where the link opens, and one where it takes a frame, unless it refuses that.
-abbrev pub AcksBy : Event → Result Bool Refusal → List (Vec ℕ Global) → List (Vec ℕ Global) → Type 0
-AcksBy OpenLink (Ok true) old new = AddsMessage old new
-AcksBy Apply (Ok true) old new = AddsMessage old new ⊎ (new ≡ old)
-AcksBy event result old new = new ≡ old
 
 -- A device that the event does not touch is as it was, with all that it has gone through; and so are both where it was not enabled.
 pub record Untouched (event : Event) (result : Result Bool Refusal) (old new : Pair) : Type 0 where

@@ -3,8 +3,8 @@ use Rattle.std.specs.Prelude.{◌≡◌, ◌⊎◌, ◌<◌, Bool, true, false}
 use Rattle.world.specs.Words.{Apply, ClearGap, Commit, Cut, Event, Free, Holder, Image, LeavesOnly, left_by, may_cut, Promote, Reopen, State, touches, World}
 use Rattle.machine.specs.declared.event.Cut.TheVariants as cut
 use Rattle.machine.specs.declared.event.Node.TheVariants as node
-use Rattle.world.specs.Condition.{has_stopped}
-use Rattle.world.specs.declared.condition.Condition.{Condition}
+use Rattle.follower.specs.Condition.{has_stopped}
+use Rattle.follower.specs.declared.condition.Condition.{Condition}
 use Rattle.world.specs.Pair.{NodesRefine, Pair}
 use Rattle.world.specs.Remaining.{KeepsOne, LeftBy}
 

@@ -6,7 +6,7 @@ ghost use Rattle.group_commit.specs.declared.due.Due.TheVariants as due;
 ghost use Rattle.machine.specs.Event.{is_between};
 ghost use Rattle.primary.specs.Standing.{notices_of};
 ghost use Rattle.world.specs.Committing.{event_of, frees_places, link_has_room};
-ghost use Rattle.world.specs.Condition.{runs};
+ghost use Rattle.follower.specs.Condition.{runs};
 ghost use Rattle.world.specs.Pair.{Does, HasWorld};
 ghost use Rattle.world.specs.Cutting.{cut_of};
 ghost use Rattle.world.specs.Step.{Leaves};

@@ -5,15 +5,15 @@ ghost use Rattle.machine.specs.declared.event.Event.TheVariants as events;
 ghost use Rattle.machine.specs.declared.event.Cut.TheVariants as cuts;
 ghost use Rattle.machine.specs.declared.event.Node.TheVariants as nodes;
 ghost use Rattle.world.specs.Pair.{Acts, HasWorld};
-ghost use Rattle.world.specs.Condition.{has_stopped};
+ghost use Rattle.follower.specs.Condition.{has_stopped};
 ghost use Rattle.world.specs.Step.{IsStep, Leaves};
 ghost use Rattle.world.specs.Stopping.{BreaksPrimary, BreaksStandby};
 ghost use Rattle.world.specs.declared.history.History.{History};
 
-use crate::condition::Condition;
 use crate::history::History;
 use crate::link_pipe::LinkPipe;
 use crate::pair::{Pair, Stepper};
+use follower::Condition;
 use kv_types::Refusal;
 use machine::Node;
 use mv_keyspace::Keyspace;

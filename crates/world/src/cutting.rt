@@ -13,9 +13,9 @@ ghost use Rattle.world.specs.Pair.{HasWorld};
 ghost use Rattle.world.specs.Step.{IsStep};
 ghost use Rattle.world.specs.declared.history.History.{History};
 
-use crate::condition::Condition;
 use crate::history::History;
 use crate::pair::{Pair, Stepper};
+use follower::Condition;
 use group_commit::Due;
 use machine::{Cut, Node};
 use mv_keyspace::Keyspace;

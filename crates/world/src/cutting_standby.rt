@@ -11,13 +11,13 @@ ghost use Rattle.model.specs.declared.record.Role.TheVariants as roles;
 ghost use Rattle.world.specs.Pair.{HasWorld};
 ghost use Rattle.world.specs.Cutting.{GoesByImage};
 ghost use Rattle.world.specs.Step.{IsStep};
-ghost use Rattle.world.specs.declared.condition.Condition.TheVariants as conditions;
+ghost use Rattle.follower.specs.declared.condition.Condition.TheVariants as conditions;
 ghost use Rattle.world.specs.declared.history.History.{History};
 
-use crate::condition::Condition;
 use crate::history::History;
 use crate::pair::{Pair, Stepper};
 use failover::{operator_fence, promote_image};
+use follower::Condition;
 use model::{Record, Role};
 use mv_keyspace::Keyspace;
 use wbl_engine::Restarting;

@@ -2,7 +2,7 @@
 ghost use Rattle.std.specs.Prelude.{◌≡◌, true, Ok};
 ghost use Rattle.machine.specs.declared.event.Event.TheVariants as events;
 ghost use Rattle.machine.specs.declared.event.Node.TheVariants as nodes;
-ghost use Rattle.world.specs.Condition.{runs};
+ghost use Rattle.follower.specs.Condition.{runs};
 ghost use Rattle.world.specs.Pair.{Acts, takes_part};
 ghost use Rattle.world.specs.Step.{Leaves};
 ghost use Rattle.world.specs.declared.history.History.{History};

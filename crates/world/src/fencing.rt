@@ -5,8 +5,8 @@ ghost use Rattle.world.specs.Pair.{Acts};
 ghost use Rattle.world.specs.Step.{Leaves};
 ghost use Rattle.world.specs.declared.history.History.{History};
 
-use crate::condition::Condition;
 use crate::pair::{Pair, Stepper};
+use follower::Condition;
 use mv_keyspace::Keyspace;
 use wbl_engine::Restarting;
 

@@ -8,7 +8,7 @@ ghost use Rattle.world.specs.Cause.{UnformedBy};
 ghost use Rattle.world.specs.Committing.{FormattingOnly};
 ghost use Rattle.model.specs.declared.record.TheConstants.{FIRST_EPOCH};
 ghost use Rattle.standby_stream.specs.Stream.{new_stream};
-ghost use Rattle.world.specs.Standby.{ArrivalsRefine, arrived_with};
+ghost use Rattle.follower.specs.Standby.{ArrivalsRefine, arrived_with};
 ghost use Rattle.world.specs.declared.history.History.{History};
 ghost use Rattle.world.specs.Headline.{start};
 ghost use Rattle.world.specs.Pair.{NodesRefine, first_device, second_device};
@@ -17,8 +17,7 @@ ghost use Rattle.extent_heap.specs.Room.{fresh_room, is_free_line, is_free_entry
 ghost use Rattle.model.specs.declared.layout.TheConstants.{LAYOUT};
 ghost use Rattle.model.specs.Layout.{entries_of_lines, first_extent_line};
 
-use crate::arrivals::Arrivals;
-use crate::condition::{AskedFences, Condition};
+use crate::asked_fences::AskedFences;
 use crate::crashing::new_link;
 use crate::history::History;
 use crate::link_pipe::LinkPipe;
@@ -26,6 +25,7 @@ use crate::pair::{Pair, Stepper};
 use connections::Connections;
 use extent_heap::ExtentHeap;
 use failover::fence;
+use follower::{Arrivals, Condition};
 use kv_types::Refusal;
 use model::{FIRST_EPOCH, LAYOUT, Layout, Work};
 use mv_keyspace::Keyspace;

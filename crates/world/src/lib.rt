@@ -1,9 +1,8 @@
 //! Runs any list of events over two devices, through the crates that serve them, and states what is promised of the run.
 #![tactic(auto)]
 
-mod arrivals;
+mod asked_fences;
 mod committing;
-mod condition;
 mod crashing;
 mod cutting;
 mod cutting_standby;
@@ -17,7 +16,6 @@ mod playing;
 mod promoting;
 mod stopping;
 mod trace;
-mod wire;
 
 pub use history::History;
 pub use machine::{Event, Mark};

@@ -2,7 +2,7 @@
 ghost use Rattle.std.specs.Prelude.{◌≡◌, ◌<◌, ◌≤◌, [], Ok, None, Some, true, IfErr, IfOk};
 ghost use Rattle.machine.specs.declared.event.Cut.TheVariants as cuts;
 ghost use Rattle.machine.specs.declared.event.Event.TheVariants as events;
-ghost use Rattle.world.specs.Condition.{runs};
+ghost use Rattle.follower.specs.Condition.{runs};
 ghost use Rattle.world.specs.Pair.{Acts, Does, HasWorld, takes_part};
 ghost use Rattle.world.specs.Pair as specs;
 ghost use Rattle.world.specs.Parts.{parts_of};
@@ -10,13 +10,12 @@ ghost use Rattle.world.specs.Step.{IsStep, Leaves, Turns};
 ghost use Rattle.world.specs.Stopping.{BreaksStandby};
 ghost use Rattle.world.specs.declared.history.History.{History};
 
-use crate::arrivals::{Arrivals, acknowledge};
-use crate::condition::{AskedFences, Condition};
+use crate::asked_fences::AskedFences;
 use crate::history::History;
 use crate::link_pipe::LinkPipe;
-use crate::wire::{decode, pass};
 use bytes::Bytes;
 use connections::Connections;
+use follower::{Arrivals, Condition, acknowledge, decode, pass};
 use group_commit::Due;
 use kv_types::{Refusal, Seen};
 use machine::{Cut, Event, Mark, Node};

@@ -1,18 +1,18 @@
 //! The promotion of a pair's standby.
 ghost use Rattle.std.specs.Prelude.{◌≡◌, true, IfErr};
 ghost use Rattle.machine.specs.declared.event.Event.TheVariants as events;
-ghost use Rattle.world.specs.Condition.{runs};
+ghost use Rattle.follower.specs.Condition.{runs};
 ghost use Rattle.world.specs.Pair.{HasWorld};
 ghost use Rattle.world.specs.Step.{IsStep};
 ghost use Rattle.world.specs.Stopping.{BreaksPromotion};
-ghost use Rattle.world.specs.declared.condition.Condition.TheVariants as conditions;
+ghost use Rattle.follower.specs.declared.condition.Condition.TheVariants as conditions;
 ghost use Rattle.world.specs.declared.history.History.{History};
 
-use crate::condition::Condition;
 use crate::crashing::new_link;
 use crate::history::History;
 use crate::pair::{Pair, Stepper};
 use failover::{operator_fence, promote_image};
+use follower::Condition;
 use kv_types::Refusal;
 use mv_keyspace::Keyspace;
 use wbl_engine::Restarting;

@@ -5,15 +5,15 @@ ghost use Rattle.machine.specs.declared.event.Event.TheVariants as events;
 ghost use Rattle.machine.specs.declared.event.Node.TheVariants as nodes;
 ghost use Rattle.machine.specs.Event.{is_between};
 ghost use Rattle.world.specs.Committing.{event_of};
-ghost use Rattle.world.specs.Condition.{runs};
+ghost use Rattle.follower.specs.Condition.{runs};
 ghost use Rattle.world.specs.Cutting.{cut_of};
 ghost use Rattle.world.specs.Pair.{HasWorld};
 ghost use Rattle.world.specs.Step.{IsStep};
-ghost use Rattle.world.specs.declared.condition.Condition.TheVariants as conditions;
+ghost use Rattle.follower.specs.declared.condition.Condition.TheVariants as conditions;
 
-use crate::condition::Condition;
 use crate::history::History;
 use crate::pair::{Pair, Stepper};
+use follower::Condition;
 use group_commit::Due;
 use kv_types::Refusal;
 use machine::Node;

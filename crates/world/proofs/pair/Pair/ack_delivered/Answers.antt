@@ -2,7 +2,7 @@ use Rattle.std.proofs.Common.{ℕ, ◌≤◌, ◌<◌, List, length, Err, Vec, G
 use Rattle.world.specs.Words.{Acknowledged, FrameFault, sent_of}
 use Rattle.world.proofs.Words.{err_from_is_err_and, ltb-true}
 use Rattle.standby_stream.specs.declared.outgoing.Outgoing.{Outgoing}
-use Rattle.world.proofs.FrameLemmas.{found-there, reads_as_ack}
+use Rattle.follower.proofs.FrameLemmas.{found-there, reads_as_ack}
 use Rattle.world.proofs.PairLink.{ack-does, ack-cut, no-ack-does}
 use Rattle.world.proofs.pair.Pair.ack_delivered.Goals as goal
 

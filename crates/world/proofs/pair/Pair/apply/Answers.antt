@@ -1,7 +1,7 @@
 use Rattle.std.proofs.Common.{refl}
 use Rattle.world.specs.Committing.{next_standby}
-use Rattle.world.specs.Standby.{arrived_with, node_at}
-use Rattle.world.proofs.KeptLemmas.{near-kept}
+use Rattle.follower.specs.Standby.{arrived_with, node_at}
+use Rattle.follower.proofs.KeptLemmas.{near-kept}
 use Rattle.world.proofs.DeviceLemmas.{not-begun}
 use Rattle.world.proofs.PairStoppingStandby.{apply-breaks}
 use Rattle.world.proofs.PairStandby.{apply-acts, follower}

@@ -1,6 +1,6 @@
 use Rattle.std.proofs.Common.{rules, refl, ◌∙◌, sym}
 use Rattle.world.proofs.PairCrash.{primary-crashed, primary-crashes}
-use Rattle.world.proofs.KeptLemmas.{leaves-picked}
+use Rattle.follower.proofs.KeptLemmas.{leaves-picked}
 use Rattle.world.proofs.pair.Pair.crash_running_primary.Goals as goal
 
 pub returns-then-not-is_running-clause-does : goal.returns-then-not-is_running-clause-does

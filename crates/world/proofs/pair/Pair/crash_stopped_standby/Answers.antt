@@ -1,8 +1,8 @@
 use Rattle.world.specs.Words.{Between}
-use Rattle.world.specs.Standby.{Node, node_at}
+use Rattle.follower.specs.Standby.{Node, node_at}
 use Rattle.world.proofs.PairStopped.{stopped-falls}
 use Rattle.world.proofs.PairFallen.{goes-by-image}
-use Rattle.world.proofs.KeptLemmas.{leaves-picked}
+use Rattle.follower.proofs.KeptLemmas.{leaves-picked}
 use Rattle.world.proofs.pair.Pair.crash_stopped_standby.Goals as goal
 
 pub returns : goal.returns

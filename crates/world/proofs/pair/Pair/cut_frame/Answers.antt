@@ -1,15 +1,15 @@
 use Rattle.std.proofs.Common.{◌≡◌, ◌++◌, ◌∷◌, [], List, Option, refl, sym, ap, subst, ◌∙◌, arith}
 use Rattle.world.specs.Words.{At, Frame, LeavesOnly, option_to_list, Sent}
 use Rattle.world.proofs.Words.{eqb-false, eqb-true}
-use Rattle.world.specs.Following.{next_from}
-use Rattle.world.specs.Standby.{Node, arrived_with, node_at}
+use Rattle.follower.specs.Following.{next_from}
+use Rattle.follower.specs.Standby.{Node, arrived_with, node_at}
 use Rattle.world.proofs.AroundLemmas.{around-stands}
-use Rattle.world.proofs.ArrivalLemmas.{first-frame}
+use Rattle.follower.proofs.ArrivalLemmas.{first-frame}
 use Rattle.world.specs.Remaining.{KeepsOne}
-use Rattle.world.proofs.KeptLemmas.{CrashedIn, crashed-in}
+use Rattle.follower.proofs.KeptLemmas.{CrashedIn, crashed-in}
 use Rattle.world.proofs.PairCutStandby.{frame-cuts, frame-idle, frame-none}
 use Rattle.world.proofs.PairStandby.{follower}
-use Rattle.world.proofs.StandbyLemmas.{StandbyStands-kept, frame-asked, frame-keeps, frame-lines}
+use Rattle.follower.proofs.StandbyLemmas.{StandbyStands-kept, frame-asked, frame-keeps, frame-lines}
 use Rattle.world.proofs.pair.Pair.cut_frame.Goals as goal
 
 pub returns-then-not-is_running : goal.returns-then-not-is_running

@@ -1,6 +1,6 @@
 use Rattle.std.proofs.Common.{refl, sym, ◌∙◌}
-use Rattle.world.specs.Standby.{Node, arrived_with, node_at}
-use Rattle.world.proofs.KeptLemmas.{CrashedIn, crashed-in}
+use Rattle.follower.specs.Standby.{Node, arrived_with, node_at}
+use Rattle.follower.proofs.KeptLemmas.{CrashedIn, crashed-in}
 use Rattle.world.proofs.PairCutStandby.{opening-cuts, opening-idle}
 use Rattle.world.proofs.pair.Pair.cut_standby_opening.Goals as goal
 

@@ -1,7 +1,7 @@
 use Rattle.std.proofs.Common.{map, subst, sym, ◌∙◌, true≢false}
 use Rattle.world.specs.Words.{cut_at, left, SessionsRefine}
 use Rattle.world.specs.Parts.{parts_of}
-use Rattle.world.proofs.KeptLemmas.{CrashedIn, crashed-in}
+use Rattle.follower.proofs.KeptLemmas.{CrashedIn, crashed-in}
 use Rattle.world.proofs.PairCutStep.{OnlyKeeps, asked-stands, cut-down, cut-not-due, step-cut}
 use Rattle.world.proofs.pair.Pair.cut_step.Goals as goal
 

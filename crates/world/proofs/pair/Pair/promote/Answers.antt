@@ -3,9 +3,9 @@ use Rattle.world.specs.Words.{Fault, Holder, image_of, IsOpening, LeavesOnly, Me
 use Rattle.world.proofs.Words.{err_from_is_err_and}
 use Rattle.model.specs.declared.record.Role.TheVariants as role
 use Rattle.world.specs.Pair.{NodesRefine}
-use Rattle.world.specs.Standby.{Node, arrived_with, node_at}
-use Rattle.world.proofs.KeptLemmas.{KeepsAsEither}
-use Rattle.world.proofs.OpenedLemmas.{IsNotOpened, IsOpened}
+use Rattle.follower.specs.Standby.{Node, arrived_with, node_at}
+use Rattle.follower.proofs.KeptLemmas.{KeepsAsEither}
+use Rattle.follower.proofs.OpenedLemmas.{IsNotOpened, IsOpened}
 use Rattle.world.proofs.PairStoppingStandby.{promotion-breaks}
 use Rattle.world.proofs.PairLives.{promote-acts}
 use Rattle.world.proofs.PairPromote.{names-epoch, opening-keeps, opening-refused, promotion-done, promotion-refused}

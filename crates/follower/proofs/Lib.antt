@@ -1,0 +1,11 @@
+pub mod Words
+pub mod EngineLemmas
+pub mod DownLemmas
+pub mod RemainLemmas
+pub mod OpenedLemmas
+pub mod KeptLemmas
+pub mod RoleLemmas
+pub mod WireLemmas
+pub mod FrameLemmas
+pub mod StandbyLemmas
+pub mod ArrivalLemmas

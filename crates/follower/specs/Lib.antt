@@ -1,0 +1,9 @@
+pub mod Words
+pub mod Condition
+pub mod Images
+pub mod Crashing
+pub mod Cause
+pub mod Link
+pub mod Following
+pub mod Standby
+pub mod Taking
