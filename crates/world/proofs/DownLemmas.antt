@@ -1,19 +1,12 @@
 -- The images of nodes that crashed: what a crash leaves of an engine over the list of calls, and what a reopening makes of it.
 use Rattle.std.proofs.Common.{◌≡◌, ◌⊎◌, inl, inr, ℕ, ◌<◌, ◌≤◌, Bool, false, List, ◌∷◌, ◌++◌, length, refl, sym, ap, subst, ◌∙◌, arith, [], rules}
-use Rattle.std.proofs.lemmas.List.{length-append}
-use Rattle.world.specs.Words.{Call, Contents, cut_at, entries_of, EntryNo, Exhausted, ExhaustsReopening, HasRecord, Holder, Holds, Image, image_of, IsDurable, IsImage, IsMapOf, IsSettled, IsUndamaged, Keeps, keyspace_after, layout_in, LeavesOnly, Memory, position_of, Record, Refusal, RefusesReopening, State, StaysReadable, Word}
-use Rattle.world.proofs.Words.{AreContentsAt-grows, entries_same, HasRecord-lines, Holds-versions, lawful_undamaged, LeavesOnly-weaken}
+use Rattle.world.proofs.Words.{AreContentsAt, AreContentsAt-grows, Call, Contents, cut_at, EngineStands, entries_of, entries_of_lines, entries_same, EntryNo, Exhausted, ExhaustsReopening, HasRecord, HasRecord-lines, Holder, Holds, Holds-versions, Image, image_of, IsDown, IsDurable, IsImage, IsMapOf, IsMapOf-same, IsSettled, IsUndamaged, Keeps, KeepsThrough, keyspace_after, lawful_undamaged, layout_in, LeavesOnly, LeavesOnly-weaken, length-append, Memory, Moves, open_gap, Opens, OpensAt, OpensAtEither, position_of, Record, Refusal, RefusesReopening, reopened, reopened-floor, Reopens, State, StaysReadable, with_room, Word}
 use Rattle.pmem.proofs.Staging.{IsImage-settled}
 use Rattle.model.specs.declared.layout.Layout.{Layout}
 use Rattle.model.specs.declared.record.Role.{Role}
-use Rattle.model.specs.Image.{entries_of_lines}
-use Rattle.model.proofs.MapLemmas.{IsMapOf-same}
-use Rattle.wbl_engine.specs.Reopening.{KeepsThrough, Reopens, open_gap, reopened, with_room}
 use Rattle.wbl_engine.proofs.ReopeningLaws.{keeps_through, lawful_refusal, reopening_lawful}
 use Rattle.wbl_engine.proofs.ReadingLemmas.{layout_in_is}
 use Rattle.wbl_engine.proofs.RoomLemmas.{room_cases, room_layout}
-use Rattle.primary.proofs.KeptImages.{reopened-floor}
-use Rattle.world.specs.Committing.{AreContentsAt, EngineStands, IsDown, Moves, Opens, OpensAt, OpensAtEither}
 use Rattle.world.proofs.EngineLemmas.{Opens-engine, keeps-opens}
 
 -- ---- words with one candidate

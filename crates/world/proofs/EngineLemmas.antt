@@ -1,10 +1,7 @@
 -- An engine over the list of calls: what its contents say of images, and how they stay and move with the list.
 use Rattle.std.proofs.Common.{◌≡◌, ℕ, ◌+◌, ◌-◌, Bool, List, inl, inr, refl, sym, ap, subst, ◌∙◌, arith}
-use Rattle.world.specs.Words.{after_group, AreLawful, Call, Contents, cut_at, entries_of, Group, Holder, Holds, Image, IsGroup, IsGroupOf, IsMapOf, IsUndamaged, Keeps, keyspace_after, last_position, play_all, Span, State}
-use Rattle.world.proofs.Words.{Holds-versions, keyspace_after-cut_at-since, lawful_undamaged, none_leaves}
-use Rattle.model.specs.Group.{changes_of_group}
+use Rattle.world.proofs.Words.{after_group, AreContentsAt, AreLawful, Call, changes_of_group, Contents, cut_at, EngineStands, entries_of, Group, Holder, Holds, Holds-versions, Image, IsGroup, IsGroupOf, IsMapOf, IsUndamaged, Keeps, keyspace_after, keyspace_after-cut_at-since, last_position, lawful_undamaged, Moves, NearOnly, none_leaves, Opens, OpensAt, OpensAtEither, play_all, Rests, Span, State}
 use Rattle.model.proofs.GroupsLemmas.{IsMapOf-after_group, IsConsistent-after_group}
-use Rattle.world.specs.Committing.{AreContentsAt, EngineStands, Moves, Rests, Opens, OpensAt, OpensAtEither, NearOnly}
 
 -- ---- what a crash leaves
 

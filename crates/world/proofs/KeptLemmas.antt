@@ -1,14 +1,7 @@
 -- A device that was asked to keep a moment, went through a call, and crashed as of that moment, or of the call's end: what is left of it, and of its node.
 use Rattle.std.proofs.Common.{◌≡◌, ◌⊎◌, inl, inr, ℕ, ◌+◌, ◌<◌, ◌≤◌, Bool, false, List, [], ◌∷◌, ◌++◌, Some, length, refl, sym, ap, ap₂, subst, ◌∙◌, arith}
-use Rattle.world.specs.Words.{AreLawful, AsFollower, AsPrimary, At, Call, Contents, cut_at, Holder, Image, image_of, IsImage, IsMapOf, IsSettled, IsUndamaged, Keeps, keyspace_after, LeavesOnly, moment, newest_at, picked, Remains, State, StaysReadable, Word, words_to_crash}
-use Rattle.world.proofs.Words.{entries_same, lawful_undamaged, LeavesOnly-then, LeavesOnly-weaken}
-use Rattle.pmem.specs.Crash.{HadImage, MayLeave}
+use Rattle.world.proofs.Words.{AreContentsAt, AreLawful, AsFollower, AsPrimary, At, Call, Contents, cut_at, EngineStands, entries_same, HadImage, Holder, Image, image_of, IsDown, IsImage, IsMapOf, IsSettled, IsUndamaged, Keeps, KeepsAs, KeepsAt, KeepsOne, KeepsPromoted, keyspace_after, lawful_from, lawful_undamaged, LeavesCut, LeavesOnly, LeavesOnly-then, LeavesOnly-weaken, LeavesPicked, MayLeave, moment, moved_by, NearOnly, newest_at, OpensAtEither, picked, promoted_holder, Remains, State, StaysReadable, Word, words_to_crash}
 use Rattle.pmem.specs.Crash as crash
-use Rattle.wbl_engine.proofs.LawfulLemmas.{lawful_from}
-use Rattle.world.specs.Committing.{AreContentsAt, EngineStands, IsDown, NearOnly, OpensAtEither, promoted_holder}
-use Rattle.world.specs.Following.{moved_by}
-use Rattle.world.specs.Effect.{LeavesCut, LeavesPicked}
-use Rattle.world.specs.Remaining.{KeepsAs, KeepsAt, KeepsOne, KeepsPromoted}
 use Rattle.world.proofs.OpenedLemmas.{StaysSo}
 use Rattle.world.proofs.RemainLemmas.{keeps-near, one-of}
 

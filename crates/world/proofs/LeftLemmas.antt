@@ -1,15 +1,9 @@
 -- The images that a call of the primary may leave where a crash cuts it, or a fence fails in it.
 use Rattle.std.proofs.Common.{rules, ◌≡◌, ◌≤◌, Bool, true, false, ◌&&◌, List, [], ◌∷◌, ◌++◌, refl, sym, ap, subst, ◌∙◌, arith, le_refl, append-nil, true≢false}
-use Rattle.std.specs.Prelude.{Contains}
-use Rattle.world.specs.Words.{AreLawful, At, Contents, Cut, halted, Holder, Image, is_between, is_crashed, is_running, Keeps, LeavesOnly, left_by, Life, may_clear, may_commit, may_cut, may_free, position_of, Remains, Sound, State, torn, with_life, World}
-use Rattle.world.proofs.Words.{and_parts, none_leaves}
+use Rattle.world.proofs.Words.{and_parts, AreContentsAt, AreLawful, At, Contains, Contents, Cut, halted, Holder, Image, is_between, is_crashed, is_running, Keeps, LeavesOnly, left_by, LeftBy, Life, may_clear, may_commit, may_cut, may_free, next_primary, none_leaves, Pair, PartsRefine, past_of, position_of, RecallsFor, Remains, Sound, State, torn, with_life, World}
 use Rattle.machine.specs.declared.event.Cut.TheVariants as cut
 use Rattle.machine.specs.declared.event.Node.TheVariants as node
 use Rattle.machine.specs.Event as machine
-use Rattle.world.specs.Committing.{AreContentsAt, next_primary}
-use Rattle.world.specs.Pair.{Pair, PartsRefine}
-use Rattle.world.specs.Recalling.{RecallsFor, past_of}
-use Rattle.world.specs.Remaining.{LeftBy}
 use Rattle.world.proofs.PairLemmas.{primary-within}
 use Rattle.world.proofs.RecallLemmas.{recalled-each}
 use Rattle.world.proofs.StopLemmas.{running-whole}

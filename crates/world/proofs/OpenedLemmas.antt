@@ -1,12 +1,7 @@
 -- The image of a node that is opened again, and what that leaves of it.
 use Rattle.std.proofs.Common.{◌≡◌, ◌≢◌, ◌⊎◌, inl, ℕ, ◌<◌, Bool, false, List, length, sym, ap, subst, ◌≤◌}
-use Rattle.world.specs.Words.{Call, Contents, cut_at, entries_of, ExhaustsReopening, Fault, HasRecord, Holder, image_of, IsDurable, IsImage, IsReopened, IsUndamaged, keyspace_after, layout_in, LeavesOnly, Memory, Record, records, Refusal, RefusesReopening, State, StaysReadable, Table}
-use Rattle.world.proofs.Words.{IsKeyspace-keyspace_after, LeavesOnly-weaken, map-from_table}
+use Rattle.world.proofs.Words.{AreContentsAt, Breaks, Call, Contents, cut_at, EngineStands, entries_of, ExhaustsReopening, Fault, HasRecord, Holder, image_of, IsDown, IsDurable, IsImage, IsKeyspace-keyspace_after, IsMapOf-unique, IsReopened, IsTable, IsUndamaged, keyspace_after, layout_in, LeavesOnly, LeavesOnly-weaken, map-from_table, Memory, Moves, OpensAtEither, Record, records, Refusal, RefusesReopening, Rests, RestsBeforeReopening, State, StaysReadable, Table}
 use Rattle.model.specs.declared.record.Role.{Role}
-use Rattle.model.proofs.MapLemmas.{IsMapOf-unique}
-use Rattle.mv_keyspace.specs.Table.{IsTable}
-use Rattle.world.specs.Cause.{Breaks, RestsBeforeReopening}
-use Rattle.world.specs.Committing.{AreContentsAt, EngineStands, IsDown, Moves, Rests, OpensAtEither}
 use Rattle.world.proofs.DownLemmas.{down-floor, down-gaps, down-reopened, restart-moments, settled-image}
 
 -- ---- the image

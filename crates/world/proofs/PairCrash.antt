@@ -1,12 +1,9 @@
 -- What a crash of a node does to the pair.
 use Rattle.std.proofs.Common.{cond, rules, le_refl, ◌≡◌, inl, inr, ℕ, ◌≤◌, true, false, ◌&&◌, ◌||◌, List, map, Ok, Vec, Global, refl, sym, ap, subst, ◌∙◌, arith, true≢false, []}
-use Rattle.world.specs.Words.{AddsOne, Allowed, At, crashed, cut_at, HasSeat, Holder, image_of, is_enabled, is_running, is_stopped, IsImage, IsSettled, LeavesOnly, left, Life, position_of, reach, Remains, seats_of, State, torn, World}
-use Rattle.world.proofs.Words.{position_of-cut_at}
+use Rattle.world.proofs.Words.{Acts, AddsOne, Allowed, AreLives, ArrivalsRefine, Arrived, At, Clients, ClientsRefine, Condition, Crashed, crashed, cut_at, DownRefine, EitherRefines, Ended, has_stopped, HasSeat, Holder, image_of, is_enabled, is_running, is_stopped, IsImage, IsSettled, LeavesOnly, left, Life, life_as, Lives, Node, NodesRefine, Pair, position_of, position_of-cut_at, reach, Remains, Running, runs, seats_of, Serving, StandbyRefines, State, Steps, Stopped, torn, World}
 use Rattle.machine.specs.declared.event.Event.TheVariants as events
 use Rattle.machine.specs.declared.event.Cut.TheVariants as cuts
 use Rattle.machine.specs.declared.event.Node.TheVariants as node
-use Rattle.world.specs.Standby.{Arrived, ArrivalsRefine, Node, StandbyRefines}
-use Rattle.world.specs.Pair.{Acts, AreLives, DownRefine, EitherRefines, NodesRefine, Pair, Steps, Lives, Clients, ClientsRefine, Serving}
 use Rattle.world.proofs.AroundLemmas.{around-stands, around-cut, arrivals-lost}
 use Rattle.world.proofs.CutLemmas.{IsDown-cut}
 use Rattle.world.proofs.DownLemmas.{crash-moves, down-crashed}
@@ -15,9 +12,6 @@ use Rattle.world.proofs.PairLemmas.{primary-within, reach-below, moves-primary, 
 use Rattle.world.proofs.PairLives.{stays-acts}
 use Rattle.world.proofs.PairStandby.{follower, standby-either}
 use Rattle.world.proofs.RecallLemmas.{recalls-crashed}
-use Rattle.world.specs.Condition.{life_as, runs, has_stopped}
-use Rattle.world.specs.declared.condition.Condition.{Condition}
-use Rattle.world.specs.declared.condition.Condition.TheVariants.{Running, Stopped, Crashed, Ended}
 use Rattle.world.proofs.RemainLemmas.{near-from}
 
 -- ---- a node that is crashed already

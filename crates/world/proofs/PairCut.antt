@@ -1,24 +1,15 @@
 -- What a crash inside a call of the primary does to the pair.
 use Rattle.std.proofs.Common.{rules, ◌≡◌, ℕ, ◌<◌, ◌≤◌, true, false, ◌&&◌, ◌||◌, List, ◌++◌, map, Ok, Vec, Global, inl, inr, refl, sym, ap, subst, ◌∙◌, arith, true≢false}
-use Rattle.world.specs.Words.{AddsOne, Allowed, At, Call, Connection, crashed, Cut, cut_at, HasSeat, Holder, image_of, is_between, is_crashed, is_enabled, IsSettled, IsUndamaged, LeavesOnly, left, left_by, MAX_LINES, may_cut, MIN_LINES, Node, reach, RecallsEach, Record, seats_of, Sound, State, StaysReadable, Step, torn, Word, World}
-use Rattle.world.proofs.Words.{lawful_undamaged, LeavesOnly-weaken, position_of-cut_at}
-use Rattle.pmem.specs.Device.{IsOlder, Older, Only}
+use Rattle.world.proofs.Words.{AddsOne, Allowed, AreLives, At, BreaksPrimary, Call, Clients, ClientsRefine, Connection, crashed, Cut, cut_at, DownRefine, EitherRefines, has_crashed, HasSeat, HasWorld, Holder, image_of, is_between, is_crashed, is_enabled, IsDown, IsOlder, IsSettled, IsStep, IsUndamaged, lawful_undamaged, LeavesCut, LeavesOf, LeavesOnly, LeavesOnly-weaken, left, left_by, LeftBy, Lives, MAX_LINES, may_cut, MIN_LINES, NodesRefine, Older, Only, OpensNear, Pair, past_of, position_of-cut_at, reach, RecallsEach, RecallsFor, Record, seats_of, Serving, Sound, State, StaysReadable, Step, Steps, torn, Word, World}
+use Rattle.world.specs.Words.{Node}
 use Rattle.pmem.specs.Crash as crash
 use Rattle.machine.specs.declared.event.Cut.TheVariants as cut
 use Rattle.machine.specs.declared.event.Event.TheVariants as events
 use Rattle.machine.specs.declared.event.Node.TheVariants as node
-use Rattle.world.specs.Committing.{IsDown}
-use Rattle.world.specs.Condition.{has_crashed}
-use Rattle.world.specs.Effect.{LeavesCut, LeavesOf}
-use Rattle.world.specs.Pair.{AreLives, DownRefine, EitherRefines, HasWorld, NodesRefine, Pair, Lives, Clients, ClientsRefine, Serving, Steps}
-use Rattle.world.specs.Recalling.{RecallsFor, past_of}
-use Rattle.world.specs.Step.{IsStep}
-use Rattle.world.specs.Stopping.{BreaksPrimary}
 use Rattle.world.proofs.AroundLemmas.{around-stands, around-cut}
 use Rattle.world.proofs.CutLemmas.{IsDown-cut}
 use Rattle.world.proofs.DeviceLemmas.{cut-or-still, on-cut}
 use Rattle.world.proofs.KeptLemmas.{CrashedIn, IsDown-kept, crash-leaves, leaves-cut, left-is, readable-keeps}
-use Rattle.world.specs.Remaining.{LeftBy, OpensNear}
 use Rattle.world.proofs.RecallLemmas.{recalled-cut}
 use Rattle.world.proofs.LeftLemmas.{left-there}
 use Rattle.world.proofs.LivesLemmas.{crashed-as}

@@ -1,19 +1,10 @@
 -- What a crash inside a call of the standby's leaves of it: as it takes a frame, is opened, or is promoted.
 use Rattle.std.proofs.Common.{◌≡◌, ℕ, ◌<◌, true, false, ◌&&◌, cond, nat_eq, List, [], ◌∷◌, ◌++◌, length, Ok, Vec, Global, refl, sym, ap, ap₂, subst, ◌∙◌, arith, OnOk, OnErr, Result, Err}
-use Rattle.std.proofs.lemmas.Bool.{and_right}
-use Rattle.world.specs.Words.{AsPrimary, At, Call, Changes, Contents, Cut, End, ExhaustsPromotion, Follower, Frame, Holder, image_of, is_between, is_crashed, is_follower, is_nonempty, is_retired, is_running, IsBeforeOrPromoted, LeavesOnly, left_by, left_by_first, left_by_told, may_cut, may_remain, Part, promoted_contents, Refusal, Remains, Role, Same, Sent, State, Told, torn, World}
-use Rattle.world.proofs.Words.{LeavesOnly-weaken}
+use Rattle.world.proofs.Words.{and_right, AreFramesRead, Arrived, AsPrimary, At, Call, Changes, Contents, Cut, End, ExhaustsPromotion, Follower, Frame, GoesByImage, has_crashed, has_ended, HasStandby, HasWorld, Holder, image_of, is_between, is_crashed, is_follower, is_nonempty, is_retired, is_running, is_still, IsBeforeOrPromoted, IsStep, KeepsOne, LeavesOnly, LeavesOnly-weaken, left_by, left_by_first, left_by_told, may_cut, may_remain, next_standby, Node, NodesRefine, OpensNear, Pair, Part, promoted_contents, Refusal, Remains, Role, runs, Same, Sent, State, Told, torn, World}
 use Rattle.machine.specs.declared.event.Event.TheVariants as events
 use Rattle.machine.specs.declared.event.Cut.TheVariants as cuts
 use Rattle.machine.specs.declared.event.Node.TheVariants as node
 use Rattle.machine.specs.Event.{Standby}
-use Rattle.world.specs.Condition.{has_crashed, is_still, runs, has_ended}
-use Rattle.world.specs.Following.{next_standby}
-use Rattle.world.specs.Link.{AreFramesRead}
-use Rattle.world.specs.Pair.{HasStandby, HasWorld, NodesRefine, Pair}
-use Rattle.world.specs.Remaining.{KeepsOne, OpensNear}
-use Rattle.world.specs.Step.{IsStep}
-use Rattle.world.specs.Standby.{Arrived, Node}
 use Rattle.world.proofs.AroundLemmas.{around-stands}
 use Rattle.world.proofs.ArrivalLemmas.{some-wait}
 use Rattle.world.proofs.KeptLemmas.{CrashedIn, IsDown-kept, crash-leaves, keeps-here, keeps-left, leaves-cut, left-is, restart-keeps, EngineStands-kept, keeps-either}
@@ -26,7 +17,6 @@ use Rattle.world.proofs.PairLives.{stays-acts}
 use Rattle.world.proofs.PairStandby.{follower}
 use Rattle.world.proofs.RemainLemmas.{keeps-near}
 use Rattle.world.proofs.StepLemmas.{stays-is}
-use Rattle.world.specs.Cutting.{GoesByImage}
 use Rattle.world.proofs.PairPromote.{names-epoch}
 use Rattle.world.proofs.PromotionLemmas.{promotion-keeps}
 

@@ -1,17 +1,10 @@
 -- What a crash inside a step of the primary's committer leaves, and what it does to the pair.
 use Rattle.std.proofs.Common.{rules, ◌≡◌, ◌+◌, ◌-◌, ℕ, Bool, true, false, ◌&&◌, nat_lt, length, Ok, Result, Vec, Global, refl, sym, ap, subst, ◌∙◌, true≢false, ◌⊎◌, ◌<◌, List, Err, inl, inr}
-use Rattle.world.specs.Words.{AddsOne, Committer, Contents, Done, Due, due_of, Fault, Freed, Group, HasSeat, Holder, is_between, is_running, LeavesOnly, Life, may_clear, may_commit, may_cut, may_free, moment, PIPE_ITEMS, Refusal, seats_of, StandsOver, State, torn, Waiting, Work, World}
+use Rattle.world.proofs.Words.{AddsOne, BreaksPrimary, Clients, Committer, Committing, Contents, cut_of, Done, Due, due_of, Fault, Freed, Group, HasSeat, HasWorld, Holder, is_between, is_running, IsStep, LeavesOnly, LeftBy, Life, link_has_room, may_clear, may_commit, may_cut, may_free, min-le_left, moment, NodesRefine, Pair, PairRefines, PartsRefine, PIPE_ITEMS, Refusal, runs, seats_of, Serving, StandsOver, State, TakesGroups, torn, Waiting, Work, World}
 use Rattle.pmem.specs.Crash as crash
-use Rattle.std.proofs.Math.Nat.{min-le_left}
-use Rattle.group_commit.specs.Working.{TakesGroups}
 use Rattle.group_commit.specs.declared.due.Due.TheVariants as due
 use Rattle.machine.specs.declared.event.Event.TheVariants as events
 use Rattle.machine.specs.declared.event.Node.TheVariants as node
-use Rattle.world.specs.Committing.{Committing, link_has_room}
-use Rattle.world.specs.Condition.{runs}
-use Rattle.world.specs.Cutting.{cut_of}
-use Rattle.world.specs.Pair.{HasWorld, NodesRefine, Pair, PairRefines, PartsRefine, Clients, Serving}
-use Rattle.world.specs.Step.{IsStep}
 use Rattle.world.proofs.KeptLemmas.{CrashedIn, EngineStands-kept}
 use Rattle.world.proofs.LivesLemmas.{running-as, serves-as, serving}
 use Rattle.world.proofs.PairCrash.{with_crashed_primary}
@@ -20,8 +13,6 @@ use Rattle.world.proofs.PairLemmas.{back-stands}
 use Rattle.world.proofs.OneGroupLemmas.{TakesGroup, takes-one}
 use Rattle.world.proofs.PairTurns.{Took, link_room, pair_of, took-step, commit-left, pair_with}
 use Rattle.world.proofs.QueueLemmas.{clear-disabled, commit-disabled, free-disabled, clear-enabled, commit-enabled, free-enabled}
-use Rattle.world.specs.Remaining.{LeftBy}
-use Rattle.world.specs.Stopping.{BreaksPrimary}
 use Rattle.world.proofs.PairClearing.{clear-left}
 use Rattle.world.proofs.PairFreeing.{free-left}
 

@@ -1,22 +1,13 @@
 -- What a request that a fence fail, and the fence of the primary, do to the pair.
 use Rattle.std.proofs.Common.{rules, le_refl, ◌≡◌, inl, inr, ℕ, nat_lt, Bool, true, ◌&&◌, List, ◌∷◌, Ok, refl, sym, ap, ap₂, subst, ◌∙◌, [], false, not}
-use Rattle.world.specs.Words.{Allowed, At, Call, Contents, FailFence, Holder, Image, is_enabled, is_running, LeavesOnly, Remains, State, torn, World, Fence, is_retired, IsImage, Keeps, Life, with_life}
-use Rattle.pmem.proofs.Leaving.{MayLeave-now}
+use Rattle.world.proofs.Words.{Acts, Allowed, AreLives, asked, asked_to_fail, At, Call, Contents, EitherRefines, Ended, EngineStands, FailFence, Fence, FreeingRefines, has_ended, Holder, Image, is_enabled, is_retired, is_running, IsImage, Keeps, LeavesOnly, LeftBy, Life, Lives, MayLeave-now, MovesNear, Node, NodesRefine, on_disk, OpensNear, Pair, PartsRefine, Remain, Remains, Retired, runs, Serving, StandbyRefines, StandbyStands, State, Steps, StillRefine, takes_part, torn, with_life, World}
 use Rattle.machine.specs.declared.event.Node.{Node as Which}
 use Rattle.machine.specs.declared.event.Node.TheVariants as node
-use Rattle.machine.specs.Event.{asked_to_fail, on_disk, Retired}
-use Rattle.world.specs.Committing.{EngineStands}
-use Rattle.world.specs.Remaining.{MovesNear, OpensNear, Remain, LeftBy}
-use Rattle.world.specs.Condition.{runs, has_ended}
-use Rattle.world.specs.Effect.{asked}
-use Rattle.world.specs.Pair.{FreeingRefines, Acts, EitherRefines, NodesRefine, Pair, PartsRefine, Steps, takes_part, Serving, AreLives, StillRefine, Lives}
-use Rattle.world.specs.Standby.{Node, StandbyRefines, StandbyStands}
 use Rattle.world.proofs.AroundLemmas.{around-stands}
 use Rattle.world.proofs.LivesLemmas.{not-crashed, not-over, not-still, stopped-still, running-as, serves-as, retired-as}
 use Rattle.world.proofs.PairLemmas.{primary-stands, standby-stands, asked-either, moves-primary, moves-standby, does-step, steps-to, steps-only, untouched}
 use Rattle.world.proofs.PairStandby.{follower, standby-either, with_standby_as}
 use Rattle.machine.specs.declared.event.Cut.TheVariants as cut
-use Rattle.world.specs.declared.condition.Condition.TheVariants.{Ended}
 use Rattle.world.proofs.DownLemmas.{settled-image}
 use Rattle.world.proofs.LeftLemmas.{left-fenced, left-running, left-there}
 use Rattle.world.proofs.PairLives.{stays-acts}

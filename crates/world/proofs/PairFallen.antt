@@ -1,36 +1,21 @@
 -- What a crash of the standby, inside a call of it or once it had stopped, does to the pair: its image is a standby's still, or that of the primary which it becomes.
 use Rattle.std.proofs.Common.{rules, ◌≡◌, ◌≢◌, ◌⊎◌, inl, inr, ℕ, zero, suc, ◌+◌, ◌<◌, ◌≤◌, Bool, true, false, ◌||◌, ◌&&◌, cond, if◌then◌else◌, List, [], ◌∷◌, ◌++◌, length, get_or, map, Option, Some, None, Ok, Vec, Global, refl, sym, ap, subst, ◌∙◌, arith, true≢false}
-use Rattle.world.specs.Words.{Allowed, AsFollower, AsPrimary, At, Call, crashed, Cut, cut_at, Follower, HasSeat, Holder, Image, image_of, is_between, is_enabled, IsSettled, IsUndamaged, LeavesOnly, left, left_by, may_cut, may_remain, position_of, promoted, Record, Remains, seats_of, State, Step, torn, with_standby, World}
-use Rattle.world.proofs.Words.{grows-step, lawful_undamaged, LeavesOnly-weaken, or_right, position_of-cut_at}
-use Rattle.std.specs.Prelude.{Contains}
+use Rattle.world.proofs.Words.{Allowed, AreLives, ArrivalsRefine, Arrived, AsFollower, AskedFences, AsPrimary, At, Call, ClientsRefine, ComesForward, Condition, Contains, Crashed, crashed, crashed_standby, Cut, cut_at, DownRefine, EitherRefines, Ended, FallsBehind, Finds, first_device, Follower, GoesByImage, grows-step, has_crashed, has_ended, HasSeat, HasStandby, Holder, Image, image_of, is_between, is_enabled, IsDown, IsSettled, IsStep, IsUndamaged, KeepsAs, KeepsAt, KeepsOne, KeepsPromoted, lawful_undamaged, LeavesOf, LeavesOnly, LeavesOnly-weaken, left, left_by, life_as, Lives, may_cut, may_remain, Node, NodesRefine, OpensAt, OpensNear, or_right, Pair, past_of, position_of, position_of-cut_at, primary_number, promoted, promoted_holder, Record, Remains, seats_of, second_device, sound-promoted, StandbyRefines, State, Step, Steps, Succeeds, surroundings_of, torn, with_standby, World}
 use Rattle.model.specs.declared.record.Role.{Role}
 use Rattle.model.specs.declared.record.Role.TheVariants as role
 use Rattle.machine.specs.declared.event.Event.TheVariants as events
 use Rattle.machine.specs.declared.event.Node.TheVariants as node
-use Rattle.machine.specs.Event.{Role as MachineRole, crashed_standby}
-use Rattle.machine.proofs.SoundEvents.{sound-promoted}
-use Rattle.world.specs.Committing.{IsDown, OpensAt, promoted_holder}
-use Rattle.world.specs.Condition.{has_crashed, has_ended, life_as}
-use Rattle.world.specs.Cutting.{ComesForward, FallsBehind, Finds, GoesByImage}
-use Rattle.world.specs.Effect.{LeavesOf}
-use Rattle.world.specs.declared.condition.AskedFences.{AskedFences}
-use Rattle.world.specs.declared.condition.Condition.{Condition}
-use Rattle.world.specs.declared.condition.Condition.TheVariants.{Crashed, Ended}
-use Rattle.world.specs.Pair.{AreLives, DownRefine, EitherRefines, HasStandby, NodesRefine, Pair, Steps, Succeeds, first_device, primary_number, second_device, Lives, ClientsRefine, surroundings_of}
-use Rattle.world.specs.Remaining.{KeepsAs, KeepsAt, KeepsOne, KeepsPromoted, OpensNear}
-use Rattle.world.specs.Standby.{Arrived, ArrivalsRefine, Node, StandbyRefines}
+use Rattle.machine.specs.Event.{Role as MachineRole}
 use Rattle.world.proofs.AroundLemmas.{around-stands, around-promoted, arrivals-lost}
 use Rattle.world.proofs.CutLemmas.{IsDown-cut}
 use Rattle.world.proofs.KeptLemmas.{kept-down, promoted-down}
 use Rattle.world.proofs.RecallLemmas.{recalled-none}
-use Rattle.world.specs.Recalling.{past_of}
 use Rattle.world.proofs.PairCrash.{with_crashed_standby}
 use Rattle.world.proofs.DeviceLemmas.{cut-or-still, on-cut}
 use Rattle.world.proofs.PairLemmas.{does-step, moved-standby, standby-within, steps-to, steps-only}
 use Rattle.world.proofs.PairStandby.{standby-either}
 use Rattle.world.proofs.PromotionLemmas.{former_holder}
 use Rattle.world.proofs.StepLemmas.{is-step, promoted-is}
-use Rattle.world.specs.Step.{IsStep}
 
 -- ---- which crash may come
 

@@ -1,25 +1,16 @@
 -- What the reopening of a node that crashed does to the pair.
 use Rattle.std.proofs.Common.{cond, rules, le_refl, ◌≡◌, inl, inr, Bool, true, false, ◌&&◌, List, length, Result, Ok, Err, refl, sym, ap, subst, ◌∙◌, arith, true≢false, []}
-use Rattle.world.specs.Words.{Allowed, AreEnded, cut_at, delta_changes, entries_of, Event, Fault, Follows, Freed, Holder, Image, image_of, is_crashed, is_enabled, IsMapOf, IsOpening, IsOver, keyspace_after, layout_in, MachineCommitter, Memory, new_stream, Opening, play_all, Ready, RecallsEach, records, Refusal, RefusesReopening, Remembers, SequencerRefines, Sequencing, Shows, State, Step, Stream, torn, with_standby, World}
-use Rattle.world.proofs.Words.{IsKeyspace-keyspace_after}
+use Rattle.world.proofs.Words.{Acts, Allowed, AreEnded, AreKeyspaces, AreLives, CommittingRefines, Condition, cut_at, delta-leads, delta_changes, DownRefine, EitherRefines, EndsBy, entries_of, Event, Fault, Freed, has_crashed, Holder, Image, image_of, is_crashed, is_enabled, IsCut, IsKeyspace-keyspace_after, IsMapOf, IsOpening, IsOver, keeps-opened, keyspace_after, keyspace_after-cut_at-position, layout_in, LinkRefines, Lives, MachineCommitter, Memory, new_stream, next_primary, next_standby, Node, NodesRefine, Opening, OpeningLeads, Pair, PartsRefine, past_of, play_all, Ready, recalls-of, RecallsEach, records, Refusal, RefusesReopening, Remembers, RemembersFor, reopened_primary, reopened_standby, Running, SequencerRefines, Sequencing, Serving, Shows, StandbyRefines, StandbyStands, State, Step, Steps, Stream, Stretch, surroundings_in, surroundings_of, SurroundingsRefine, torn, with_primary, with_standby, World}
+use Rattle.world.specs.Words.{Follows}
 use Rattle.model.specs.declared.record.Role.TheVariants as role
 use Rattle.model.proofs.LayoutLemmas.{gaps_fit}
-use Rattle.model.proofs.CallsLemmas.{keyspace_after-cut_at-position}
 use Rattle.standby_stream.proofs.FitLemmas.{deltas_fit}
 use Rattle.machine.specs.declared.event.Event.TheVariants as events
 use Rattle.machine.specs.declared.event.Node.TheVariants as node
-use Rattle.machine.specs.Event.{reopened_primary, reopened_standby, with_primary}
-use Rattle.world.specs.Cause.{EndsBy, Stretch}
-use Rattle.world.specs.Committing.{CommittingRefines, next_primary, next_standby}
-use Rattle.world.specs.Link.{LinkRefines}
-use Rattle.primary.specs.Recalling.{AreKeyspaces}
-use Rattle.primary.proofs.KeptImages.{delta-leads, keeps-opened, recalls-of}
 use Rattle.primary.proofs.OpenedLemmas.{leads_to}
-use Rattle.world.specs.Recalling.{OpeningLeads, RemembersFor, past_of}
 use Rattle.world.proofs.AroundLemmas.{around-stands}
-use Rattle.world.proofs.RecallLemmas.{remembered-from, have_their_lines, in_order}
-use Rattle.world.specs.Standby.{Node, StandbyRefines, StandbyStands}
-use Rattle.world.specs.Pair.{Acts, AreLives, DownRefine, EitherRefines, IsCut, NodesRefine, Pair, PartsRefine, Steps, Lives, Serving, SurroundingsRefine, surroundings_of, surroundings_in}
+use Rattle.world.proofs.RecallLemmas.{remembered-from, in_order}
+use Rattle.primary.proofs.FittingLemmas.{have_their_lines}
 use Rattle.world.proofs.DownLemmas.{restart-refused}
 use Rattle.world.proofs.FormLemmas.{committing-nothing, leads-nothing}
 use Rattle.world.proofs.PairLemmas.{Led, cut-for, rests-primary, rests-standby, tells, moves-primary, moves-standby, does-step, steps-to, steps-only, cut-only}
@@ -27,9 +18,6 @@ use Rattle.world.proofs.OpenedLemmas.{IsNotOpened, IsOpened, opened-breaks, open
 use Rattle.world.proofs.PairLives.{stays-acts}
 use Rattle.world.proofs.PairStandby.{standby-either}
 use Rattle.world.proofs.LivesLemmas.{crashed-not-over, still-not-crashed, not-crashed, crashed-as}
-use Rattle.world.specs.Condition.{has_crashed}
-use Rattle.world.specs.declared.condition.Condition.{Condition}
-use Rattle.world.specs.declared.condition.Condition.TheVariants.{Running}
 use Rattle.world.proofs.RemainLemmas.{near-from}
 use Rattle.world.proofs.LinkLemmas.{link-nothing}
 

@@ -1,17 +1,9 @@
 -- What a crash does to a node that had stopped.
 use Rattle.std.proofs.Common.{◌≡◌, ℕ, true, ◌||◌, Ok, Vec, Global, refl, sym, ap, ◌∙◌, true≢false, List, append-nil, subst}
-use Rattle.world.specs.Words.{AddsOne, HasSeat, Holder, image_of, is_running, is_stopped, IsImage, LeavesOnly, Remains, seats_of, State, torn, World}
-use Rattle.world.proofs.Words.{LeavesOnly-weaken, or_right}
+use Rattle.world.proofs.Words.{AddsOne, Clients, Condition, has_ended, has_stopped, HasSeat, Holder, image_of, is_running, is_stopped, IsImage, IsStep, KeepsOne, LeavesOnly, LeavesOnly-weaken, LeavesPicked, LeftBy, NodesRefine, OpensNear, or_right, Pair, Remains, Running, runs, seats_of, Serving, State, Steps, Stopped, torn, World}
 use Rattle.machine.specs.declared.event.Cut.TheVariants as cut
 use Rattle.machine.specs.declared.event.Event.TheVariants as events
 use Rattle.machine.specs.declared.event.Node.TheVariants as node
-use Rattle.world.specs.Condition.{has_ended, has_stopped, runs}
-use Rattle.world.specs.Effect.{LeavesPicked}
-use Rattle.world.specs.Pair.{NodesRefine, Pair, Clients, Serving, Steps}
-use Rattle.world.specs.Remaining.{LeftBy, KeepsOne, OpensNear}
-use Rattle.world.specs.Step.{IsStep}
-use Rattle.world.specs.declared.condition.Condition.{Condition}
-use Rattle.world.specs.declared.condition.Condition.TheVariants.{Running, Stopped}
 use Rattle.world.proofs.LivesLemmas.{still-as, stopped-as, stopped-not-over}
 use Rattle.world.proofs.PairCrash.{HasCrashed, crash-enabled, with_crashed_primary}
 use Rattle.world.proofs.PairCut.{EndsThere, falls, primary-falls}

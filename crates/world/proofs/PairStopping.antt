@@ -1,18 +1,11 @@
 -- The primary stops where a fence fails in an event, as it was asked to.
 use Rattle.std.proofs.Common.{rules, ◌≡◌, ℕ, Vec, Global, Bool, true, false, ◌&&◌, List, [], ◌++◌, Result, Ok, Err, IfErr, inl, inr, refl, sym, ap, subst, ◌∙◌, true≢false}
-use Rattle.world.specs.Words.{Allowed, Cut, Due, Event, Fault, halted, Happens, Holder, Image, is_between, is_crashed, is_enabled, is_stopped, left_by, may_cut, Refusal, Remains, Step, torn, touches, World}
-use Rattle.world.proofs.Words.{LeavesOnly-weaken}
+use Rattle.world.proofs.Words.{AcksBy, Allowed, allowed, AreLives, BreaksPrimary, call_of, Cut, cut_of, Due, Event, event_of, Fault, FramesBy, halted, Happens, HasWorld, Holder, Image, is_between, is_crashed, is_enabled, is_stopped, IsStep, LeavesOnly-weaken, left_by, LeftBy, may_cut, NodesRefine, OpensNear, Pair, Refusal, Remains, Step, Steps, StillRefine, takes_part, torn, touches, World}
 use Rattle.group_commit.specs.declared.due.Due.TheVariants as due
 use Rattle.machine.specs.declared.event.Cut.TheVariants as cut
 use Rattle.machine.specs.declared.event.Event.TheVariants as events
 use Rattle.machine.specs.declared.event.Node.TheVariants as node
 use Rattle.machine.specs.Event as machine
-use Rattle.world.specs.Committing.{event_of}
-use Rattle.world.specs.Cutting.{cut_of}
-use Rattle.world.specs.Pair.{AreLives, HasWorld, NodesRefine, Pair, Steps, StillRefine, allowed, takes_part}
-use Rattle.world.specs.Remaining.{LeftBy, OpensNear}
-use Rattle.world.specs.Step.{AcksBy, FramesBy, IsStep}
-use Rattle.world.specs.Stopping.{BreaksPrimary, call_of}
 use Rattle.world.specs.declared.condition.Condition.TheVariants as conditions
 use Rattle.world.proofs.DeviceLemmas.{on-stop}
 use Rattle.world.proofs.LivesLemmas.{stopped-as}

@@ -1,12 +1,8 @@
 -- The image of a standby that is promoted: what the calls that do so leave of it.
 use Rattle.std.proofs.Common.{◌≡◌, ◌⊎◌, inl, inr, ℕ, ◌+◌, ◌<◌, ◌≤◌, Bool, true, false, List, [], ◌∷◌, All, Vec, Global, refl, sym, ap, subst, ◌∙◌, arith, true≢false}
-use Rattle.world.specs.Words.{AreLawful, Call, Contents, COUNTER_LIMIT, Exhausted, ExhaustsPromotion, ExhaustsReopening, Fault, HasRecord, Holder, Image, image_of, IsBeforeOrPromoted, IsDurable, IsFrameWithin, IsImage, IsSettled, LeavesOnly, Memory, promoted_contents, Record, Refusal, Role, Same, Sent, State}
-use Rattle.world.proofs.Words.{All-head, All-tail, cases_lt, HasRecord-lines, LeavesOnly-then, LeavesOnly-weaken, none_leaves, Same-is}
+use Rattle.world.proofs.Words.{All-head, All-tail, AreContentsAt, AreFramesSent, AreLawful, Call, cases_lt, Contents, COUNTER_LIMIT, EngineStands, Exhausted, ExhaustsPromotion, ExhaustsReopening, Fault, HasRecord, HasRecord-lines, Holder, Image, image_of, IsBeforeOrPromoted, IsDown, IsDurable, IsFrameWithin, IsImage, IsSettled, LeavesOnly, LeavesOnly-then, LeavesOnly-weaken, Memory, none_leaves, OpensAsEither, OpensAt, promoted_contents, promoted_holder, Promoting, Record, Refusal, Role, Same, Same-is, Sent, State}
 use Rattle.model.specs.declared.record.Role.TheVariants as role
 use Rattle.wbl_engine.proofs.PromotingLemmas.{consistent_promoted, lawful_promoted}
-use Rattle.world.specs.Cause.{Promoting}
-use Rattle.world.specs.Committing.{AreContentsAt, EngineStands, IsDown, OpensAsEither, OpensAt, promoted_holder}
-use Rattle.world.specs.Link.{AreFramesSent}
 use Rattle.world.proofs.DownLemmas.{restart-moments, restart-refused, settled-image}
 use Rattle.world.proofs.EngineLemmas.{Opens-engine}
 use Rattle.world.proofs.KeptLemmas.{KeepsAsEither, engine-keeps, restart-promoted}

@@ -1,16 +1,9 @@
 -- What the image of a node may hold in which a fence failed: how it opens, and while the list grows or is cut.
 use Rattle.std.proofs.Common.{◌≡◌, ◌⊎◌, inl, inr, ℕ, zero, suc, ◌<◌, ◌≤◌, List, [], ◌∷◌, ◌++◌, length, get_or, append-nil, refl, sym, ap, subst, ◌∙◌, arith, le_refl}
-use Rattle.std.specs.Prelude.{All, Contains}
-use Rattle.world.specs.Words.{AsFollower, AsPrimary, At, Call, Contents, Cut, cut_at, Holder, Image, IsImage, IsStandbyLeft, left_by, may_remain, position_of, Remains, Role, State, torn, World}
-use Rattle.world.proofs.Words.{All-cons, AreContentsAt-grows, LeavesOnly-weaken}
-use Rattle.std.proofs.lemmas.List.Elements.{All-contains}
+use Rattle.world.proofs.Words.{All, All-cons, All-contains, AreContentsAt, AreContentsAt-grows, AsFollower, AsPrimary, At, Call, Contains, Contents, Cut, cut_at, Holder, Image, IsImage, IsStandbyLeft, KeepsAs, KeepsAt, KeepsOne, LeavesOne, LeavesOnly-weaken, left_by, LeftBy, may_remain, Moves, MovesNear, Opens, OpensAs, OpensAsOne, OpensAt, OpensAtEither, OpensNear, OrLies, past_of, position_of, promoted_holder, RecallsFor, Remain, Remains, Resting, Role, State, torn, World}
 use Rattle.machine.specs.declared.event.Cut.TheVariants as cut
 use Rattle.machine.specs.declared.event.Node.TheVariants as node
 use Rattle.machine.specs.Event.{Primary}
-use Rattle.world.specs.Cause.{OrLies, Resting}
-use Rattle.world.specs.Recalling.{RecallsFor, past_of}
-use Rattle.world.specs.Committing.{AreContentsAt, Moves, Opens, OpensAt, OpensAtEither, promoted_holder}
-use Rattle.world.specs.Remaining.{KeepsAs, KeepsAt, KeepsOne, LeavesOne, LeftBy, MovesNear, OpensAs, OpensAsOne, OpensNear, Remain}
 use Rattle.world.proofs.CutLemmas.{AreContentsAt-cut}
 use Rattle.world.proofs.EngineLemmas.{keeps-opens, rests-same}
 use Rattle.world.proofs.RecallLemmas.{recalled-on}

@@ -1,7 +1,5 @@
 use Rattle.std.proofs.Common.{ap, subst, sym}
-use Rattle.world.specs.Words.{Primary, Standby, State}
-use Rattle.world.specs.Cause.{UnformedBy}
-use Rattle.world.specs.Committing.{FormattingOnly}
+use Rattle.world.proofs.Words.{FormattingOnly, Primary, Standby, State, UnformedBy}
 use Rattle.world.proofs.FormLemmas.{formatting-none}
 use Rattle.world.proofs.RunningLemmas.{keeps-played, keeps-unplayed}
 use Rattle.world.proofs.playing.play_over.Goals as goal

@@ -1,8 +1,6 @@
 use Rattle.std.proofs.Common.{rules, ap, if◌then◌else◌, refl, ◌∙◌, sym, subst}
-use Rattle.world.specs.Words.{Between, State}
-use Rattle.world.specs.Effect.{LeavesOf}
+use Rattle.world.proofs.Words.{arrived_with, Between, LeavesOf, node_at, State}
 use Rattle.world.proofs.LivesLemmas.{not-over}
-use Rattle.world.specs.Standby.{arrived_with, node_at}
 use Rattle.world.proofs.PairCrash.{standby-crashed, standby-crashes}
 use Rattle.world.proofs.KeptLemmas.{leaves-picked}
 use Rattle.world.proofs.pair.Pair.crash_running_standby.Goals as goal

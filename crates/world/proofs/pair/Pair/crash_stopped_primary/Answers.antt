@@ -1,5 +1,5 @@
 use Rattle.std.proofs.Common.{rules, map, subst}
-use Rattle.world.specs.Words.{cut_at, left, SessionsRefine}
+use Rattle.world.proofs.Words.{cut_at, left, SessionsRefine}
 use Rattle.world.proofs.PairStopped.{stopped-cut}
 use Rattle.world.proofs.KeptLemmas.{leaves-picked}
 use Rattle.world.proofs.pair.Pair.crash_stopped_primary.Goals as goal

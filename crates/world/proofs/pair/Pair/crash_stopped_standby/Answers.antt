@@ -1,5 +1,4 @@
-use Rattle.world.specs.Words.{Between}
-use Rattle.world.specs.Standby.{Node, node_at}
+use Rattle.world.proofs.Words.{Between, Node, node_at}
 use Rattle.world.proofs.PairStopped.{stopped-falls}
 use Rattle.world.proofs.PairFallen.{goes-by-image}
 use Rattle.world.proofs.KeptLemmas.{leaves-picked}

@@ -1,11 +1,7 @@
 use Rattle.std.proofs.Common.{◌≡◌, ◌++◌, ◌∷◌, [], List, Option, refl, sym, ap, subst, ◌∙◌, arith}
-use Rattle.world.specs.Words.{At, Frame, LeavesOnly, option_to_list, Sent}
-use Rattle.world.proofs.Words.{eqb-false, eqb-true}
-use Rattle.world.specs.Following.{next_from}
-use Rattle.world.specs.Standby.{Node, arrived_with, node_at}
+use Rattle.world.proofs.Words.{arrived_with, At, eqb-false, eqb-true, Frame, KeepsOne, LeavesOnly, next_from, Node, node_at, option_to_list, Sent}
 use Rattle.world.proofs.AroundLemmas.{around-stands}
 use Rattle.world.proofs.ArrivalLemmas.{first-frame}
-use Rattle.world.specs.Remaining.{KeepsOne}
 use Rattle.world.proofs.KeptLemmas.{CrashedIn, crashed-in}
 use Rattle.world.proofs.PairCutStandby.{frame-cuts, frame-idle, frame-none}
 use Rattle.world.proofs.PairStandby.{follower}

@@ -1,5 +1,5 @@
 use Rattle.std.proofs.Common.{map, refl, subst, sym, ◌∙◌}
-use Rattle.world.specs.Words.{cut_at, left, SessionsRefine}
+use Rattle.world.proofs.Words.{cut_at, left, SessionsRefine}
 use Rattle.machine.specs.declared.event.Cut.TheVariants as cut
 use Rattle.world.proofs.KeptLemmas.{CrashedIn, crashed-in}
 use Rattle.world.proofs.PairCut.{asked-settled, opening-cut-in, opening-stays, primary-cut}

@@ -1,6 +1,5 @@
 use Rattle.std.proofs.Common.{sym, ap, subst, ◌∙◌}
-use Rattle.world.specs.Words.{Contents, ExhaustsPromotion, IsBeforeOrPromoted, LeavesOnly}
-use Rattle.world.specs.Standby.{Node, node_at}
+use Rattle.world.proofs.Words.{Contents, ExhaustsPromotion, IsBeforeOrPromoted, LeavesOnly, Node, node_at}
 use Rattle.world.proofs.KeptLemmas.{CrashedIn, crashed-in}
 use Rattle.world.proofs.PairCutStandby.{promotion-cuts, promotion-idle, promotion-lines, promotion-unfenced}
 use Rattle.world.proofs.pair.Pair.cut_promotion.Goals as goal

@@ -1,5 +1,5 @@
 use Rattle.std.proofs.Common.{refl, sym, ◌∙◌}
-use Rattle.world.specs.Standby.{Node, arrived_with, node_at}
+use Rattle.world.proofs.Words.{arrived_with, Node, node_at}
 use Rattle.world.proofs.KeptLemmas.{CrashedIn, crashed-in}
 use Rattle.world.proofs.PairCutStandby.{opening-cuts, opening-idle}
 use Rattle.world.proofs.pair.Pair.cut_standby_opening.Goals as goal

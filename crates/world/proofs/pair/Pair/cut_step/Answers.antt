@@ -1,6 +1,5 @@
 use Rattle.std.proofs.Common.{map, subst, sym, ◌∙◌, true≢false}
-use Rattle.world.specs.Words.{cut_at, left, SessionsRefine}
-use Rattle.world.specs.Parts.{parts_of}
+use Rattle.world.proofs.Words.{cut_at, left, parts_of, SessionsRefine}
 use Rattle.world.proofs.KeptLemmas.{CrashedIn, crashed-in}
 use Rattle.world.proofs.PairCutStep.{OnlyKeeps, asked-stands, cut-down, cut-not-due, step-cut}
 use Rattle.world.proofs.pair.Pair.cut_step.Goals as goal

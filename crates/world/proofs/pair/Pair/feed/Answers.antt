@@ -1,8 +1,7 @@
 use Rattle.std.proofs.Common.{refl}
 use Rattle.machine.specs.declared.event.Event.TheVariants as events
-use Rattle.world.specs.Words.{changed_at, with_inbound}
-use Rattle.world.proofs.Words.{on_err_from}
-use Rattle.machine.specs.Connection.{may_feed, fed_with}
+use Rattle.world.proofs.Words.{changed_at, may_feed, on_err_from, with_inbound}
+use Rattle.machine.specs.Connection.{fed_with}
 use Rattle.world.proofs.PairLemmas.{sessions-do, tells}
 use Rattle.world.proofs.pair.Pair.feed.Goals as goal
 

@@ -1,8 +1,7 @@
 use Rattle.std.proofs.Common.{refl}
 use Rattle.machine.specs.declared.event.Event.TheVariants as events
-use Rattle.world.specs.Words.{changed_at, with_outbound}
-use Rattle.world.proofs.Words.{on_err_from}
-use Rattle.machine.specs.Connection.{may_hold, held_first}
+use Rattle.world.proofs.Words.{changed_at, may_hold, on_err_from, with_outbound}
+use Rattle.machine.specs.Connection.{held_first}
 use Rattle.world.proofs.PairLemmas.{sessions-do, tells}
 use Rattle.world.proofs.pair.Pair.hold.Goals as goal
 

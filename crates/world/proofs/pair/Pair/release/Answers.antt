@@ -1,7 +1,7 @@
 use Rattle.std.proofs.Common.{refl}
 use Rattle.machine.specs.declared.event.Event.TheVariants as events
-use Rattle.world.specs.Words.{changed_at, with_outbound}
-use Rattle.machine.specs.Connection.{may_release, having_released}
+use Rattle.world.proofs.Words.{changed_at, may_release, with_outbound}
+use Rattle.machine.specs.Connection.{having_released}
 use Rattle.world.proofs.PairLemmas.{sessions-did}
 use Rattle.world.proofs.pair.Pair.release.Goals as goal
 

@@ -1,7 +1,7 @@
 use Rattle.std.proofs.Common.{refl}
 use Rattle.machine.specs.declared.event.Event.TheVariants as events
-use Rattle.world.specs.Words.{changed_at, with_outbound}
-use Rattle.machine.specs.Connection.{may_write, written}
+use Rattle.world.proofs.Words.{changed_at, may_write, with_outbound}
+use Rattle.machine.specs.Connection.{written}
 use Rattle.world.proofs.PairLemmas.{sessions-do}
 use Rattle.world.proofs.pair.Pair.write.Goals as goal
 

@@ -1,8 +1,5 @@
 use Rattle.std.proofs.Common.{ap, sym, ◌∙◌}
-use Rattle.world.specs.Words.{Newcomer, PinCopy, SendCopy}
-use Rattle.world.proofs.Words.{and_parts}
-use Rattle.world.specs.Condition.{runs}
-use Rattle.world.specs.Pair.{takes_part}
+use Rattle.world.proofs.Words.{and_parts, Newcomer, PinCopy, runs, SendCopy, takes_part}
 use Rattle.world.proofs.StepLemmas.{acts-is, copy-does, idle-is, leaves-still, newcomer-does, own-is, pin-does, turn-is}
 use Rattle.world.proofs.pair.PairStepper.step.Goals as goal
 
