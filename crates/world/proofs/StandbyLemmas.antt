@@ -317,7 +317,7 @@ module _ {E K D : Type 0} (device : E → State) (contents : E → Contents) (is
       let goes_by : GoesOn refuses.refusal = subst GoesOn (same_err refl refuses.answer) goes in
       elim refuses.state [
         | inl once ↦ elim once.cause [
-          | inl wrong ↦ absurd (wrong.1 (inl epoch_same))
+          | inl wrong ↦ absurd (wrong.1 epoch_same)
           | inr (inl gap) ↦
               let same = ap (node_of device contents is_faulted table) once.same in
               let apart = is_apart gap.2 in
