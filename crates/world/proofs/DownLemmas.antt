@@ -1,13 +1,13 @@
 -- The images of nodes that crashed: what a crash leaves of an engine over the list of calls, and what a reopening makes of it.
-use Rattle.std.proofs.Common.{◌≡◌, ◌⊎◌, inl, inr, ℕ, ◌<◌, ◌≤◌, Bool, false, List, ◌∷◌, ◌++◌, length, refl, sym, ap, subst, ◌∙◌, arith, [], rules}
-use Rattle.world.proofs.Words.{AreContentsAt, AreContentsAt-grows, Call, Contents, cut_at, EngineStands, entries_of, entries_of_lines, entries_same, EntryNo, Exhausted, ExhaustsReopening, HasRecord, HasRecord-lines, Holder, Holds, Holds-versions, Image, image_of, IsDown, IsDurable, IsImage, IsMapOf, IsMapOf-same, IsSettled, IsUndamaged, Keeps, KeepsThrough, keyspace_after, lawful_undamaged, layout_in, LeavesOnly, LeavesOnly-weaken, length-append, Memory, Moves, open_gap, Opens, OpensAt, OpensAtEither, position_of, Record, Refusal, RefusesReopening, reopened, reopened-floor, Reopens, State, StaysReadable, with_room, Word}
+use Rattle.std.proofs.Common.{◌≡◌, ◌⊎◌, inl, inr, ℕ, ◌<◌, ◌≤◌, false, List, ◌∷◌, ◌++◌, length, refl, sym, ap, subst, ◌∙◌, arith, [], rules}
+use Rattle.world.proofs.Words.{AreContentsAt, AreContentsAt-grows, Call, Contents, cut_at, EngineStands, entries_of, entries_of_lines, entries_same, EntryNo, Exhausted, ExhaustsReopening, HasRecord, HasRecord-lines, Holder, Holds, Holds-versions, Image, image_of, IsDown, IsDurable, IsImage, IsMapOf, IsMapOf-same, IsSettled, IsUndamaged, Keeps, KeepsThrough, keyspace_after, lawful_undamaged, layout_in, LeavesOnly, LeavesOnly-weaken, length-append, Memory, open_gap, Opens, OpensAt, position_of, Record, Refusal, RefusesReopening, reopened, reopened-floor, Reopens, State, StaysReadable, with_room, Word}
 use Rattle.pmem.proofs.Staging.{IsImage-settled}
 use Rattle.model.specs.declared.layout.Layout.{Layout}
 use Rattle.model.specs.declared.record.Role.{Role}
 use Rattle.wbl_engine.proofs.ReopeningLaws.{keeps_through, lawful_refusal, reopening_lawful}
 use Rattle.wbl_engine.proofs.ReadingLemmas.{layout_in_is}
 use Rattle.wbl_engine.proofs.RoomLemmas.{room_cases, room_layout}
-use Rattle.world.proofs.EngineLemmas.{Opens-engine, keeps-opens}
+use Rattle.world.proofs.EngineLemmas.{keeps-opens}
 
 -- ---- words with one candidate
 
@@ -18,28 +18,6 @@ settled-image words image settled is =
     grind arith
 
 -- ---- a crash
-
--- an engine over the list of calls that crashes leaves its image, with the contents that it had
-abbrev pub down-crashed : (holder : Holder) (calls : List Call) (p : ℕ) (device device' : State) (contents : Contents) (is_faulted : Bool) → EngineStands holder calls p device contents is_faulted
-    → contents.lines ≡ device.lines → IsSettled device'.words → IsImage device.words (image_of device'.words) → device'.lines ≡ device.lines → IsDown holder calls p device'
-down-crashed holder calls p device device' contents is_faulted stands sized settled is lines =
-    record {
-      contents = contents;
-      contents_at = stands.contents_at;
-      lawful = stands.lawful;
-      keeps = stands.durable (image_of device'.words) is;
-      settled = settled;
-      sized = sized ∙ sym lines;
-    }
-
--- the crash leaves its node where it stood
-pub crash-moves : (holder : Holder) (calls : List Call) (p : ℕ) (device device' : State) (contents : Contents) (is_faulted : Bool) → EngineStands holder calls p device contents is_faulted
-    → LeavesOnly device device' (IsImage device.words) → device'.failures ≡ device.failures → Moves holder calls p p device device'
-crash-moves holder calls p device device' contents is_faulted stands moments failures =
-    record {
-      leaves = LeavesOnly-weaken (OpensAtEither holder calls p p) (λ image is. inl (Opens-engine holder calls p device contents is_faulted stands image is)) moments;
-      failures = failures;
-    }
 
 -- while the node is crashed, its image stands where it stood
 pub Opens-down : (holder : Holder) (calls : List Call) (p : ℕ) (device : State) → IsDown holder calls p device → Opens holder calls p device

@@ -1,6 +1,6 @@
 -- An engine over the list of calls: what its contents say of images, and how they stay and move with the list.
-use Rattle.std.proofs.Common.{◌≡◌, ℕ, ◌+◌, ◌-◌, Bool, List, inl, inr, refl, sym, ap, subst, ◌∙◌, arith}
-use Rattle.world.proofs.Words.{after_group, AreContentsAt, AreLawful, Call, changes_of_group, Contents, cut_at, EngineStands, entries_of, Group, Holder, Holds, Holds-versions, Image, IsGroup, IsGroupOf, IsMapOf, IsUndamaged, Keeps, keyspace_after, keyspace_after-cut_at-since, last_position, lawful_undamaged, Moves, NearOnly, none_leaves, Opens, OpensAt, OpensAtEither, play_all, Rests, Span, State}
+use Rattle.std.proofs.Common.{◌≡◌, ℕ, ◌+◌, ◌-◌, Bool, List, inr, refl, sym, ap, subst, ◌∙◌, arith}
+use Rattle.world.proofs.Words.{after_group, AreContentsAt, AreLawful, Call, changes_of_group, Contents, cut_at, EngineStands, entries_of, Group, Holder, Holds, Holds-versions, Image, IsGroup, IsGroupOf, IsMapOf, IsUndamaged, Keeps, keyspace_after, keyspace_after-cut_at-since, last_position, lawful_undamaged, Moves, none_leaves, Opens, OpensAt, OpensAtEither, play_all, Rests, Span, State}
 use Rattle.model.proofs.GroupsLemmas.{IsMapOf-after_group, IsConsistent-after_group}
 
 -- ---- what a crash leaves
@@ -25,11 +25,6 @@ keeps-opens holder calls p contents image are lawful keeps =
 pub Opens-engine : (holder : Holder) (calls : List Call) (p : ℕ) (device : State) (contents : Contents) (is_faulted : Bool) → EngineStands holder calls p device contents is_faulted → Opens holder calls p device
 Opens-engine holder calls p device contents is_faulted stands = λ image is. keeps-opens holder calls p contents image stands.contents_at stands.lawful (stands.durable image is)
 
--- nothing happened to the device
-pub near-still : (holder : Holder) (calls : List Call) (p q : ℕ) (device : State) (contents : Contents) (is_faulted : Bool) → EngineStands holder calls p device contents is_faulted → NearOnly holder calls p q device device
-near-still holder calls p q device contents is_faulted stands =
-    none_leaves device (OpensAtEither holder calls p q) (λ image is. inl (Opens-engine holder calls p device contents is_faulted stands image is))
-
 pub rests-same : (holder : Holder) (calls : List Call) (p : ℕ) (old new : State) → new ≡ old → Opens holder calls p old → Rests holder calls p old new
 rests-same holder calls p old new same stands =
     subst (Rests holder calls p old) (sym same) (record { leaves = none_leaves old (OpensAt holder calls p) stands; failures = refl })
@@ -38,11 +33,6 @@ rests-same holder calls p old new same stands =
 pub moves-same : (holder : Holder) (calls : List Call) (p q : ℕ) (old new : State) → new ≡ old → Opens holder calls q new → Moves holder calls p q old new
 moves-same holder calls p q old new same stands = subst (λ (d : State). Moves holder calls p q d new) same
     (record { leaves = none_leaves new (OpensAtEither holder calls p q) (λ image is. inr (stands image is)); failures = refl })
-
--- nor where it stands is asked after
-pub moves-rest : (holder : Holder) (calls : List Call) (p q : ℕ) (old new : State) → new ≡ old → Opens holder calls p old → Moves holder calls p q old new
-moves-rest holder calls p q old new same stands = subst (λ (d : State). Moves holder calls p q old d) (sym same)
-    (record { leaves = none_leaves old (OpensAtEither holder calls p q) (λ image is. inl (stands image is)); failures = refl })
 
 -- ---- one group further
 

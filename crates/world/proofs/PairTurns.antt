@@ -1,6 +1,6 @@
 -- What the turns of the committer do to the pair: its own clauses refine the machine's events.
 use Rattle.std.proofs.Common.{rules, ◌≡◌, ◌⊎◌, ◌-◌, ◌≤◌, ℕ, Bool, true, false, nat_lt, List, length, min, Result, Ok, Err, inl, inr, refl, sym, ap, subst, ◌∙◌, arith, []}
-use Rattle.world.proofs.Words.{cases_lt, committed_first, Committer, CommittingRefines, Contents, Does, Done, Due, due_now, Durable, EngineStands, Event, Exhausts, Freed, FreeingRefines, FreeList, from_group, Group, group_lawful, hand-now, hands-beside, HandsFirst, Holder, le-ltb, LeavesOnly, LeavesOnly-weaken, LeftBy, link_has_room, lt-ltb, MachineCommitter, may_happen, Memory, min-eq_left, min-le_left, min-le_right, next_primary, Pair, PairRefines, PartsRefine, past_of, PIPE_ITEMS, raise-now, raised, Ready, Record, Refusal, RemembersFor, Same, SequencerRefines, serving_by, Shown, State, Steps, Waiting, with_committer, Work, World}
+use Rattle.world.proofs.Words.{cases_lt, committed_first, Committer, CommittingRefines, Contents, Does, Done, Due, due_now, Durable, EngineStands, Exhausts, Freed, FreeingRefines, FreeList, from_group, Group, group_lawful, hand-now, hands-beside, HandsFirst, Holder, le-ltb, LeavesOnly, LeavesOnly-weaken, LeftBy, link_has_room, lt-ltb, MachineCommitter, may_happen, Memory, min-eq_left, min-le_left, min-le_right, next_primary, Pair, PairRefines, PartsRefine, past_of, PIPE_ITEMS, raise-now, raised, Ready, Record, Refusal, RemembersFor, Same, SequencerRefines, serving_by, Shown, State, Steps, Waiting, with_committer, Work, World}
 use Rattle.std.specs.Coded.{le_prop}
 use Rattle.pipes.specs.declared.limits.TheConstants as limits
 use Rattle.group_commit.specs.Committing.{ready_again}
@@ -337,9 +337,3 @@ module _ {E : Type 0} (device : E → State) (contents : E → Contents) (is_fau
       stays-does (pair_of before works waiting) events.Hand refl (λ first second w stands. hand-none w.primary.calls before.stage w.primary.committer.stage
       (λ groups shown. never (hand-now contents before works (link_has_room waiting.items) pair.wire.remote groups shown))
       stands.parts.committing.stage_is)
-
--- ---- what was answered of it
-
--- two names of one answer
-pub told-so : (old new : Pair) (event : Event) (result told : Result Bool Refusal) → result ≡ told → Does old event result new → Does old event told new
-told-so old new event result told same does = subst (λ (r : Result Bool Refusal). Does old event r new) same does

@@ -65,12 +65,6 @@ recalled-cut low position calls contents recalls = record {
       subst (Recalls contents.versions (λ i. Unit {0}) p) (sym (keyspace_after-cut_at-cut calls position p (omega (arith, below)))) (recalls.recalls p from below);
 }
 
--- a crash cuts it at the image's position
-pub recalls-crashed : (low position : ℕ) (calls : List Call) (contents : Contents) (items : List Work) (aside : List FreeList) (s : Sequencing)
-    → RemembersFor low position (past_of calls) contents items aside s → RecallsFor low position (past_of (cut_at calls position)) contents
-recalls-crashed low position calls contents items aside s remembers =
-    recalled-cut low position calls contents (recalled-each low position (past_of calls) contents items aside s remembers)
-
 -- its oldest gap is cleared
 pub recalled-cleared : (low position : ℕ) (past : Past) (contents : Contents) → RecallsFor low position past contents → RecallsFor low position past (cleared_contents contents)
 recalled-cleared low position past contents recalls = record { floored = recalls.floored; recalls = recalls.recalls }

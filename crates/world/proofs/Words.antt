@@ -72,7 +72,7 @@ pub use Rattle.wbl_engine.specs.Reopening.{KeepsThrough, open_gap, reopened, Reo
 pub use Rattle.world.specs.Cause.{asks_memory, AtLimit, Breaks, EndsBy, IsAtLimit, IsWrongSize, OrLies, Promoting, ReachesLimit, Resting, RestsAtFrameLimit, RestsAtLimit, RestsBeforeReopening, Stretch, UnformedBy}
 pub use Rattle.world.specs.Committing.{AreContentsAt, AreOfEpoch, Committing, CommittingRefines, EngineStands, event_of, FormattingOnly, frees_places, IsDown, Leads, link_has_room, Moves, NearOnly, next_primary, next_standby, Opens, OpensAsEither, OpensAt, OpensAtEither, promoted_holder, reached_now, Rests, StageRefines}
 pub use Rattle.world.specs.Condition.{has_crashed, has_ended, has_stopped, is_still, life_as, runs}
-pub use Rattle.world.specs.Cutting.{ComesForward, cut_of, FallsBehind, Finds, GoesByImage}
+pub use Rattle.world.specs.Cutting.{ComesForward, cut_of, Falls, FallsBehind, Finds, GoesByImage}
 pub use Rattle.world.specs.Effect.{asked, ClearsOldest, Effect, FreesOldest, LeavesCut, LeavesOf, LeavesPicked, OnDid}
 pub use Rattle.world.specs.Following.{HasFollower, moved_by, next_from}
 pub use Rattle.world.specs.Headline.{AreMoments, AreMoves, at_the_end, Devices, devices_in, devices_of, each, Ending, EndsAs, Given, given_by, given_in, GoesOn, HasSent, holder_at, in_event, in_promotion, IsCutAfter, IsKept, IsPlayed, KeepsItsWord, Moved, MovesBy, MovesOn, next_at, node_on, OfNode, OfSomeNode, opens_as, opens_during, OpensFrom, OpensFromEither, OpensIn, OpensThere, Passes, Plays, PlaysOn, primary_holder, primary_position, Reaches, standby_holder, standby_position, StandsAfter, StandsIn, start, touches_on}
@@ -84,7 +84,7 @@ pub use Rattle.world.specs.Remaining.{cut_short, is_cut, KeepsAs, KeepsAt, Keeps
 pub use Rattle.world.specs.Standby.{AppliesFirst, ArrivalsRefine, Arrived, arrived_with, Node, node_at, StandbyRefines, StandbyStands, told_by}
 pub use Rattle.world.specs.Step.{AcksBy, calls_left, CallsBy, FramesBy, Happened, has_begun, IsRoomier, IsStep, LacksRoom, Leaves, released_by, touches_primary, touches_standby, Turns, Untouched, WasCut}
 pub use Rattle.world.specs.Stopping.{BreaksPrimary, BreaksPromotion, BreaksStandby, call_of, Stops}
-pub use Rattle.world.specs.Words.{Ack, AckDelivered, Acknowledged, acknowledged, Acknowledgement, acknowledgement_of, AddsOne, after_free, after_group, Allowed, Applies, Apply, are_running, AreEnded, AreGroupsOf, AreLawful, AreWorkOf, AsFollower, AsPrimary, At, Awaited, Between, Call, called, changed_at, Changes, changes_size, cleared_contents, ClearGap, Clears, CloseGroup, ClosesOne, Commit, Commits, committed_first, Committer, Connection, connection_of, Connections, Contents, Copying, COUNTER_LIMIT, Crash, crashed, Cut, cut_at, delivered, delta_changes, Done, Due, due_now, due_of, Durable, EachPosition, End, entries_of, EntryNo, Event, Exhausted, Exhausts, ExhaustsPromotion, ExhaustsRaising, ExhaustsReopening, Expects, FailFence, Fails, Fault, Fence, floor_raised, Follower, Frame, FrameFault, Free, Freed, FreeList, Frees, from_group, Global, Goes, Group, halted, handed, Happens, has_room, HasRecord, HasSeat, Holder, Holds, Image, image_of, is_between, is_crashed, is_enabled, is_follower, is_nonempty, is_retired, is_running, is_stopped, IsAheadOf, IsBeforeOrPromoted, IsChain, IsDurable, IsFormatting, IsFrameWithin, IsGroup, IsGroupOf, IsImage, IsLegal, IsMapOf, IsOpening, IsOver, IsPromised, IsReleased, IsReopened, IsServed, IsSettled, IsStandbyLeft, IsUndamaged, IsWithinLimits, Keeps, KeepsFreed, KEPT_GROUPS, keyspace_after, knowing, last_position, last_world, layout_in, LeavesOnly, left, left_by, left_by_first, left_by_told, Life, life_of, Limit, MachineCommitter, MachineLink, MachineStage, MachineWork, Mark, MAX_BODY_BYTES, MAX_LINES, may_clear, may_commit, may_cut, may_free, may_happen, may_remain, Memory, MIN_LINES, moment, new_committer, new_holder, new_link, new_stream, Newcomer, newest_at, next_to_send, nodes_run, notices_of, OneStamp, Opening, OpenLink, option_items, option_to_list, Part, Past, picked, PinCopy, PIPE_ITEMS, play_all, position_at, position_of, positions_of_lists, Primary, Promote, promoted, promoted_contents, raised_local, reach, reached_lists, Ready, ready_again, RecallsEach, Record, records, Refusal, RefusesReopening, released_in, released_of, Remains, Remembers, Reopen, Reopening, Role, Room, row, Run, Same, seats_of, SeatsFollow, Send, SendCopy, Sending, Sent, sent_next, sent_of, sent_of_ack, sent_of_frame, sent_text, sent_with, SequencerRefines, Sequencing, SessionsRefine, Shown, Shows, Sound, Span, spans_of, Stage, STAMP_WINDOW, Standby, StandsOver, State, StaysReadable, Step, Stream, Table, Takes, TakesBack, TakesChanges, TakesOwn, Told, told, torn, touches, Transcript, Turn, vec_capacity, Versions, Waiting, with_acknowledged, with_committer, with_inbound, with_life, with_link, with_outbound, with_standby, without, without_first, Word, words_to_crash, Work, World, Write, WrongSize}
+pub use Rattle.world.specs.Words.{Ack, AckDelivered, Acknowledged, acknowledged, Acknowledgement, acknowledgement_of, AddsOne, after_free, after_group, Allowed, Applies, Apply, are_running, AreEnded, AreGroupsOf, AreLawful, AreWorkOf, AsFollower, AsPrimary, At, Awaited, Call, called, changed_at, Changes, changes_size, cleared_contents, ClearGap, Clears, CloseGroup, ClosesOne, Commit, Commits, committed_first, Committer, Connection, connection_of, Connections, Contents, Copying, COUNTER_LIMIT, Crash, crashed, Cut, cut_at, delivered, delta_changes, Done, Due, due_now, due_of, Durable, EachPosition, End, entries_of, EntryNo, Event, Exhausted, Exhausts, ExhaustsPromotion, ExhaustsRaising, ExhaustsReopening, Expects, FailFence, Fails, Fault, Fence, floor_raised, Follower, Frame, FrameFault, Free, Freed, FreeList, Frees, from_group, Global, Goes, Group, halted, handed, Happens, has_room, HasRecord, HasSeat, Holder, Holds, Image, image_of, is_between, is_crashed, is_enabled, is_follower, is_nonempty, is_retired, is_running, is_stopped, IsAheadOf, IsBeforeOrPromoted, IsChain, IsDurable, IsFormatting, IsFrameWithin, IsGroup, IsGroupOf, IsImage, IsLegal, IsMapOf, IsOpening, IsOver, IsPromised, IsReleased, IsReopened, IsServed, IsSettled, IsStandbyLeft, IsUndamaged, IsWithinLimits, Keeps, KeepsFreed, KEPT_GROUPS, keyspace_after, knowing, last_position, last_world, layout_in, LeavesOnly, left, left_by, left_by_first, Life, life_of, Limit, MachineCommitter, MachineLink, MachineStage, MachineWork, Mark, MAX_BODY_BYTES, MAX_LINES, may_clear, may_commit, may_cut, may_free, may_happen, may_remain, Memory, MIN_LINES, moment, new_committer, new_holder, new_link, new_stream, Newcomer, newest_at, next_to_send, nodes_run, notices_of, OneStamp, Opening, OpenLink, option_items, option_to_list, Part, Past, picked, PinCopy, PIPE_ITEMS, play_all, position_at, position_of, positions_of_lists, Primary, Promote, promoted, promoted_contents, raised_local, reach, reached_lists, Ready, ready_again, RecallsEach, Record, records, Refusal, RefusesReopening, released_in, released_of, Remains, Remembers, Reopen, Reopening, Role, Room, row, Run, Same, seats_of, SeatsFollow, Send, SendCopy, Sending, Sent, sent_next, sent_of, sent_of_ack, sent_of_frame, sent_text, sent_with, SequencerRefines, Sequencing, SessionsRefine, Shown, Shows, Sound, Span, spans_of, Stage, STAMP_WINDOW, Standby, StandsOver, State, StaysReadable, Step, Stream, Table, Takes, TakesBack, TakesChanges, TakesOwn, Told, told, torn, touches, Transcript, Turn, vec_capacity, Versions, Waiting, with_acknowledged, with_committer, with_inbound, with_life, with_link, with_outbound, with_standby, without, without_first, Word, words_to_crash, Work, World, Write, WrongSize}
 pub use Rattle.world.specs.declared.condition.AskedFences.{AskedFences}
 pub use Rattle.world.specs.declared.condition.Condition.{Condition}
 pub use Rattle.world.specs.declared.condition.Condition.TheVariants.{Crashed, Ended, Running, Stopped}

@@ -19,7 +19,7 @@ ghost use Rattle.model.specs.Layout.{entries_of_lines, first_extent_line};
 
 use crate::arrivals::Arrivals;
 use crate::condition::{AskedFences, Condition};
-use crate::crashing::new_link;
+use crate::reopening::new_link;
 use crate::history::History;
 use crate::link_pipe::LinkPipe;
 use crate::pair::{Pair, Stepper};

@@ -19,7 +19,7 @@ use bytes::Bytes;
 use connections::Connections;
 use group_commit::Due;
 use kv_types::{Refusal, Seen};
-use machine::{Cut, Event, Mark, Node};
+use machine::{Event, Mark};
 use mv_keyspace::Keyspace;
 use primary::{Primary, close};
 use standby::Standby;
@@ -114,7 +114,7 @@ impl<E: Restarting, K: Keyspace + Drop> Stepper for Pair<E, K> {
             Event::Release(c) => self.release(*c),
             Event::Write(c, n) => self.write(history, *c, *n),
             Event::Leave(c) => self.leave(*c),
-            Event::Crash(node, call, k, picks) => self.crash_in(history, *node, *call, *k, picks),
+            Event::Crash(node, call, k, picks) => Ok(self.crash(history, *node, *call, *k, picks)),
             Event::Reopen(node) => self.reopen_or_stop(history, *node),
             Event::FailFence(node, n) => Ok(self.fail_fence(*node, *n)),
             Event::Fence => Ok(self.fence()),
@@ -132,24 +132,6 @@ impl<E: Restarting, K: Keyspace + Drop> Pair<E, K> {
             self.primary_condition.is_running(),
             self.standby_condition.is_running(),
         )
-    }
-
-    /// A node crashes between two events, or inside a call.
-    fn crash_in(
-        &mut self,
-        history: &mut History,
-        node: Node,
-        call: Cut,
-        k: u64,
-        picks: &Vec<u64>,
-    ) -> Result<bool, Refusal>
-        requires world { HasWorld (⟦<Pair<E, K> as Stepper>⟧.parts self.old history.old) }
-        ensures { IsStep (⟦<Pair<E, K> as Stepper>⟧.parts self.old history.old) (events.Crash node call k picks.now) result (⟦<Pair<E, K> as Stepper>⟧.parts self.new history.new) }
-    {
-        if call.is_between() {
-            return Ok(self.crash(history, node, picks));
-        }
-        Ok(self.cut(history, node, call, k, picks))
     }
 
     fn enter(&mut self, history: &mut History) -> Result<bool, Refusal>

@@ -9,7 +9,7 @@ ghost use Rattle.world.specs.declared.condition.Condition.TheVariants as conditi
 ghost use Rattle.world.specs.declared.history.History.{History};
 
 use crate::condition::Condition;
-use crate::crashing::new_link;
+use crate::reopening::new_link;
 use crate::history::History;
 use crate::pair::{Pair, Stepper};
 use failover::{operator_fence, promote_image};

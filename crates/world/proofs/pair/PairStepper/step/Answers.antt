@@ -82,7 +82,7 @@ pub returns-in-Apply : goal.returns-in-Apply
 returns-in-Apply g c = rw c.in-Apply.is c.apply_or_stop.ensures
 
 pub returns-in-Crash : goal.returns-in-Crash
-returns-in-Crash g c = rw c.in-Crash.is c.crash_in.ensures
+returns-in-Crash g c = rw c.in-Crash.is c.crash.ensures
 
 pub returns-in-Reopen : goal.returns-in-Reopen
 returns-in-Reopen g c = rw c.in-Reopen.is c.reopen_or_stop.ensures
