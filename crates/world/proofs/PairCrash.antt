@@ -1,7 +1,7 @@
 -- Which crash of a node may come, and what one between two events leaves of its device.
 -- a crash is enabled where its node is in such a call, or goes on between two
 use Rattle.std.proofs.Common.{ap, false, Global, List, Ok, refl, true, Vec, ℕ, ◌&&◌, ◌||◌, ◌∙◌, ◌≡◌}
-use Rattle.world.proofs.Words.{Allowed, AreLives, Arrived, Clients, Condition, Crashed, Cut, Ended, has_stopped, Holder, is_between, is_enabled, is_running, is_stopped, IsImage, IsStep, LeavesOnly, LeavesPicked, Life, life_as, Lives, may_cut, Node, NodesRefine, or_right, Pair, Remains, Running, runs, Serving, State, Stopped, torn, World}
+use Rattle.world.proofs.Words.{Allowed, AreLives, Arrived, Clients, Condition, Crashed, Cut, has_stopped, Holder, is_between, is_enabled, is_running, is_stopped, IsImage, IsStep, LeavesOnly, LeavesPicked, Life, life_as, Lives, may_cut, Node, NodesRefine, or_right, Pair, Remains, Running, runs, Serving, State, torn, World}
 use Rattle.machine.specs.declared.event.Event.TheVariants as events
 use Rattle.machine.specs.declared.event.Cut.TheVariants as cuts
 use Rattle.machine.specs.declared.event.Node.TheVariants as node
@@ -23,9 +23,7 @@ crash-idle old n call k picks never =
 -- between two it goes on where it runs or has stopped
 goes-as : (condition : Condition) (remains : List Remains) → (is_running (life_as condition remains) || is_stopped (life_as condition remains)) ≡ (runs condition || has_stopped condition)
 goes-as Running remains = refl
-goes-as Stopped remains = refl
-goes-as Crashed remains = refl
-goes-as Ended remains = refl
+goes-as condition remains = refl
 
 pub crash-may : {first second : Holder} {lives : Lives} {w : World} → AreLives first second lives w
     → (may_cut w node.Primary cuts.Between ≡ (runs lives.primary || has_stopped lives.primary)) × (may_cut w node.Standby cuts.Between ≡ (runs lives.standby || has_stopped lives.standby))

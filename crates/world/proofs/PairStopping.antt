@@ -37,11 +37,7 @@ step-breaks-in step inside = absurd (true≢false inside)
 -- the primary takes part in it alone
 pub step-takes : (step : Due) (primary_runs standby_runs : Bool) → takes_part primary_runs standby_runs (event_of step) ≡ primary_runs
 step-takes due.Commit primary_runs standby_runs = refl
-step-takes due.Raise primary_runs standby_runs = refl
-step-takes due.Hand primary_runs standby_runs = refl
-step-takes due.Free primary_runs standby_runs = refl
-step-takes due.Clear primary_runs standby_runs = refl
-step-takes due.Nothing primary_runs standby_runs = refl
+step-takes step primary_runs standby_runs = refl
 
 pub opening-breaks-in : BreaksIn (events.Reopen node.Primary) cut.Reopen
 opening-breaks-in = record {

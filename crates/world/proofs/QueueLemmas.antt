@@ -79,29 +79,17 @@ clear-last (list ∷ aside) [] true gap remote = beside-none [] list (aside ++ [
 not-commit : (step : Due) → (step ≡ due.Commit → ⊥) → is_commit step ≡ false
 unfolding is_commit
 not-commit due.Commit never = absurd (never refl)
-not-commit due.Raise never = refl
-not-commit due.Hand never = refl
-not-commit due.Free never = refl
-not-commit due.Clear never = refl
-not-commit due.Nothing never = refl
+not-commit step never = refl
 
 not-free : (step : Due) → (step ≡ due.Free → ⊥) → is_free step ≡ false
 unfolding is_free
-not-free due.Commit never = refl
-not-free due.Raise never = refl
-not-free due.Hand never = refl
 not-free due.Free never = absurd (never refl)
-not-free due.Clear never = refl
-not-free due.Nothing never = refl
+not-free step never = refl
 
 not-clear : (step : Due) → (step ≡ due.Clear → ⊥) → is_clear step ≡ false
 unfolding is_clear
-not-clear due.Commit never = refl
-not-clear due.Raise never = refl
-not-clear due.Hand never = refl
-not-clear due.Free never = refl
 not-clear due.Clear never = absurd (never refl)
-not-clear due.Nothing never = refl
+not-clear step never = refl
 
 -- ---- what is due may happen, and nothing else of the committer's
 

@@ -1,11 +1,9 @@
 -- How the committer and its engine refine the machine's.
 use Rattle.std.specs.Prelude.{◌≡◌, ◌⊎◌, ℕ, ◌+◌, ◌≤◌, Bool, true, false, nat_lt, List, [], ◌∷◌, length}
-use Rattle.world.specs.Words.{AreGroupsOf, AreLawful, AreWorkOf, Call, Contents, Due, Durable, Event, FreeList, Group, Holder, Image, image_of, IsFormatting, IsImage, IsSettled, IsUndamaged, Keeps, LeavesOnly, MachineCommitter, MachineStage, positions_of_lists, Ready, Shown, Stage, State, Waiting, Work}
-use Rattle.model.specs.Standing.{StandsAt}
+use Rattle.world.specs.Words.{AreGroupsOf, AreLawful, AreWorkOf, Call, Contents, Due, Durable, Event, FreeList, Group, Holder, Image, image_of, IsFormatting, IsImage, IsSettled, IsUndamaged, Keeps, LeavesOnly, MachineCommitter, MachineStage, positions_of_lists, reached_by, Ready, Shown, Stage, StandsAt, State, Waiting, Work}
 use Rattle.model.specs.declared.record.Role.{Role}
 use Rattle.model.specs.declared.record.TheConstants.{FIRST_EPOCH}
 use Rattle.pipes.specs.declared.limits.TheConstants.{PIPE_ITEMS}
-use Rattle.group_commit.specs.Due.{reached_by}
 use Rattle.group_commit.specs.declared.due.Due.TheVariants as due
 use Rattle.machine.specs.declared.event.Event.TheVariants as events
 use Rattle.machine.specs.World as machine_stage

@@ -1,13 +1,10 @@
 //! Crashes of a pair's primary, between two events or inside a call.
 ghost use Rattle.std.specs.Prelude.{◌≡◌, ℕ, ◌≤◌, false, Ok};
-ghost use Rattle.pmem.specs.Crash.{image_of};
-ghost use Rattle.model.specs.declared.image.TheConstants.{MAX_LINES, MIN_LINES};
+ghost use Rattle.world.specs.Words.{image_of, is_between, IsUndamaged, MAX_LINES, MIN_LINES};
 ghost use Rattle.model.specs.declared.record.Record.{Record as CommitRecord};
-ghost use Rattle.wbl_engine.specs.Lawful.{IsUndamaged};
 ghost use Rattle.machine.specs.declared.event.Cut.TheVariants as cuts;
 ghost use Rattle.machine.specs.declared.event.Event.TheVariants as events;
 ghost use Rattle.machine.specs.declared.event.Node.TheVariants as nodes;
-ghost use Rattle.machine.specs.Event.{is_between};
 ghost use Rattle.world.specs.Cutting.{Falls, cut_of};
 ghost use Rattle.world.specs.Pair.{HasWorld};
 ghost use Rattle.world.specs.Step.{IsStep};

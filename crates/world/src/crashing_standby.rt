@@ -1,12 +1,10 @@
 //! Crashes of a pair's standby, between two events or inside a call.
 ghost use Rattle.std.specs.Prelude.{◌≡◌, ◌↔◌, ℕ, [], List, map, IsTrue, Ok};
-ghost use Rattle.connections.specs.Session.{AddsOne, HasSeat, SessionsRefine, seats_of};
-ghost use Rattle.machine.specs.Event.{Connection as Machine, left};
+ghost use Rattle.world.specs.Words.{AddsOne, Call, cut_at, HasSeat, left, seats_of, SessionsRefine};
+ghost use Rattle.machine.specs.Event.{Connection as Machine};
 ghost use Rattle.machine.specs.declared.event.Cut.TheVariants as cuts;
 ghost use Rattle.machine.specs.declared.event.Event.TheVariants as events;
 ghost use Rattle.machine.specs.declared.event.Node.TheVariants as nodes;
-ghost use Rattle.model.specs.Call.{cut_at};
-ghost use Rattle.model.specs.declared.call.Call.{Call};
 ghost use Rattle.model.specs.declared.record.Role.TheVariants as roles;
 ghost use Rattle.world.specs.Pair.{HasWorld};
 ghost use Rattle.world.specs.Cutting.{GoesByImage};

@@ -1,7 +1,6 @@
 //! A run of any list of events over two devices.
 ghost use Rattle.std.specs.Prelude.{◌≡◌, ◌≤◌, ◌∷◌, [], List, length, vec_len, vec_capacity, Some};
-ghost use Rattle.connections.specs.Session.{released_of};
-ghost use Rattle.model.specs.Standing.{Holder};
+ghost use Rattle.world.specs.Words.{Holder, released_of};
 ghost use Rattle.world.specs.declared.trace.EarlyEnd.TheVariants.{AtFormatting};
 ghost use Rattle.world.specs.Headline.{KeepsItsWord, PlaysOn, Plays, devices_in, devices_of, given_by, start};
 ghost use Rattle.world.specs.Pair.{NodesRefine};
