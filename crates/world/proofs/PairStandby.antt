@@ -50,7 +50,7 @@ standby-either first second old arrivals node condition w machine told whole lat
             ),
           )
       | inr (inl down) ↦ inr (inl (down.0, search (rules, around, down.1, recalled-on low machine.position p past down.1.image.contents later down.1.recalls)))
-      | inr (inr still) ↦ inr (inr (still.0, record { around = around; lines_are = still.1.lines_are; left = λ image is. left-later first w w' image refl later (still.1.left image is) }))
+      | inr (inr still) ↦ inr (inr (still.0, record { around = around; lines_are = still.1.lines_are; left = λ image is. left-later first w machine w'.wire image later (still.1.left image is) }))
     ]
 
 -- all that is on the wire is of the pair's epoch

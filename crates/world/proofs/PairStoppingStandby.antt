@@ -190,7 +190,7 @@ promotion-stops old mid arrivals flag breaks lost told has =
               (empty Promote stops-promoting old new lost acks breaks.fails breaks.lines_are asked refl refl first second w stands)
               (stopped Promote stops-promoting old new lost acks breaks.fails breaks.lines_are asked refl refl first second w stands);
           lines_are = still.lines_are;
-          left = λ image at. left-later first w w' image refl (le_refl w.standby.position) (still.left image at);
+          left = λ image at. left-later first w w'.standby w'.wire image (le_refl w.standby.position) (still.left image at);
         } in
         inr (inr (ended-still old.lives.primary over, refined))
 
