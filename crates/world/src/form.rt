@@ -13,10 +13,10 @@ ghost use Rattle.model.specs.Layout.{entries_of_lines, first_extent_line};
 
 use crate::arrivals::Arrivals;
 use crate::condition::{AskedFences, Condition};
-use crate::reopening::new_link;
 use crate::history::History;
 use crate::link_pipe::LinkPipe;
 use crate::pair::{Pair, Stepper};
+use crate::reopening::new_link;
 use connections::Connections;
 use extent_heap::ExtentHeap;
 use failover::fence;

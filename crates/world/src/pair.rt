@@ -15,7 +15,6 @@ use crate::condition::{AskedFences, Condition};
 use crate::history::History;
 use crate::link_pipe::LinkPipe;
 use crate::wire::{decode, pass};
-use bytes::Bytes;
 use connections::Connections;
 use group_commit::Due;
 use kv_types::{Refusal, Seen};
@@ -89,10 +88,10 @@ impl<E: Restarting, K: Keyspace + Drop> Stepper for Pair<E, K> {
         }
         match event {
             Event::Enter => self.enter(history),
-            Event::Feed(c, piece) => self.feed(*c, piece),
-            Event::Offer(c) => self.offer(*c),
+            Event::Feed(c, piece) => self.sessions.feed(*c, piece),
+            Event::Offer(c) => self.sessions.offer(*c),
             Event::Turn(c) => self.turn(history, *c),
-            Event::CloseGroup => self.close_group(),
+            Event::CloseGroup => close(self.alloc, &mut self.primary.front, &mut self.primary.back),
             Event::Commit => self.step_or_stop(history, Due::Commit),
             Event::RaiseLocal => self.take_step(Due::Raise),
             Event::Hand => self.take_step(Due::Hand),
@@ -109,11 +108,11 @@ impl<E: Restarting, K: Keyspace + Drop> Stepper for Pair<E, K> {
             Event::Newcomer => Ok(false),
             Event::PinCopy => Ok(false),
             Event::SendCopy => Ok(false),
-            Event::Hold(c) => self.hold(history, *c),
+            Event::Hold(c) => self.sessions.hold(&history.transcript, *c),
             Event::Read(c, mark) => self.read(*c, *mark),
-            Event::Release(c) => self.release(*c),
-            Event::Write(c, n) => self.write(history, *c, *n),
-            Event::Leave(c) => self.leave(*c),
+            Event::Release(c) => Ok(self.sessions.release(*c)),
+            Event::Write(c, n) => self.sessions.write(&mut history.transcript, *c, *n),
+            Event::Leave(c) => Ok(self.sessions.leave(*c, &mut self.primary.front)),
             Event::Crash(node, call, k, picks) => Ok(self.crash(history, *node, *call, *k, picks)),
             Event::Reopen(node) => self.reopen_or_stop(history, *node),
             Event::FailFence(node, n) => Ok(self.fail_fence(*node, *n)),
@@ -141,20 +140,6 @@ impl<E: Restarting, K: Keyspace + Drop> Pair<E, K> {
         self.sessions.enter(self.alloc, &mut history.transcript, &mut self.primary.front)
     }
 
-    fn feed(&mut self, c: u64, piece: &Bytes) -> Result<bool, Refusal>
-        ensures does { (history : History) → Does (⟦<Pair<E, K> as Stepper>⟧.parts self.old history) (events.Feed c piece.now) result (⟦<Pair<E, K> as Stepper>⟧.parts self.new history) }
-        ensures leaves { (history : History) → Leaves (events.Feed c piece.now) result (⟦<Pair<E, K> as Stepper>⟧.parts self.old history) (⟦<Pair<E, K> as Stepper>⟧.parts self.new history) }
-    {
-        self.sessions.feed(c, piece)
-    }
-
-    fn offer(&mut self, c: u64) -> Result<bool, Refusal>
-        ensures does { (history : History) → Does (⟦<Pair<E, K> as Stepper>⟧.parts self.old history) (events.Offer c) result (⟦<Pair<E, K> as Stepper>⟧.parts self.new history) }
-        ensures leaves { (history : History) → Leaves (events.Offer c) result (⟦<Pair<E, K> as Stepper>⟧.parts self.old history) (⟦<Pair<E, K> as Stepper>⟧.parts self.new history) }
-    {
-        self.sessions.offer(c)
-    }
-
     /// Room is made for the call first.
     fn turn(&mut self, history: &mut History, c: u64) -> Result<bool, Refusal>
         ensures turns { Turns (⟦<Pair<E, K> as Stepper>⟧.parts self.old history.old) c result (⟦<Pair<E, K> as Stepper>⟧.parts self.new history.new) }
@@ -163,13 +148,6 @@ impl<E: Restarting, K: Keyspace + Drop> Pair<E, K> {
         history.transcript.make_room()?;
         let (alloc, front) = (self.alloc, &mut self.primary.front);
         Ok(self.sessions.turn(alloc, &mut history.transcript, c, front))
-    }
-
-    fn close_group(&mut self) -> Result<bool, Refusal>
-        ensures does { (history : History) → Does (⟦<Pair<E, K> as Stepper>⟧.parts self.old history) events.CloseGroup result (⟦<Pair<E, K> as Stepper>⟧.parts self.new history) }
-        ensures leaves { (history : History) → Leaves events.CloseGroup result (⟦<Pair<E, K> as Stepper>⟧.parts self.old history) (⟦<Pair<E, K> as Stepper>⟧.parts self.new history) }
-    {
-        close(self.alloc, &mut self.primary.front, &mut self.primary.back)
     }
 
     fn accept_freed(&mut self) -> bool
@@ -267,13 +245,6 @@ impl<E: Restarting, K: Keyspace + Drop> Pair<E, K> {
         Ok(rises)
     }
 
-    fn hold(&mut self, history: &History, c: u64) -> Result<bool, Refusal>
-        ensures does { Does (⟦<Pair<E, K> as Stepper>⟧.parts self.old history.now) (events.Hold c) result (⟦<Pair<E, K> as Stepper>⟧.parts self.new history.now) }
-        ensures leaves { Leaves (events.Hold c) result (⟦<Pair<E, K> as Stepper>⟧.parts self.old history.now) (⟦<Pair<E, K> as Stepper>⟧.parts self.new history.now) }
-    {
-        self.sessions.hold(&history.transcript, c)
-    }
-
     fn read(&mut self, c: u64, mark: Mark) -> Result<bool, Refusal>
         ensures does { (history : History) → Does (⟦<Pair<E, K> as Stepper>⟧.parts self.old history) (events.Read c mark) result (⟦<Pair<E, K> as Stepper>⟧.parts self.new history) }
         ensures leaves { (history : History) → Leaves (events.Read c mark) result (⟦<Pair<E, K> as Stepper>⟧.parts self.old history) (⟦<Pair<E, K> as Stepper>⟧.parts self.new history) }
@@ -283,26 +254,5 @@ impl<E: Restarting, K: Keyspace + Drop> Pair<E, K> {
             remote: self.remote,
         };
         Ok(self.sessions.read(c, mark, marks))
-    }
-
-    fn release(&mut self, c: u64) -> Result<bool, Refusal>
-        ensures does { (history : History) → Does (⟦<Pair<E, K> as Stepper>⟧.parts self.old history) (events.Release c) result (⟦<Pair<E, K> as Stepper>⟧.parts self.new history) }
-        ensures leaves { (history : History) → Leaves (events.Release c) result (⟦<Pair<E, K> as Stepper>⟧.parts self.old history) (⟦<Pair<E, K> as Stepper>⟧.parts self.new history) }
-    {
-        Ok(self.sessions.release(c))
-    }
-
-    fn write(&mut self, history: &mut History, c: u64, n: u64) -> Result<bool, Refusal>
-        ensures does { Does (⟦<Pair<E, K> as Stepper>⟧.parts self.old history.old) (events.Write c n) result (⟦<Pair<E, K> as Stepper>⟧.parts self.new history.new) }
-        ensures leaves { Leaves (events.Write c n) result (⟦<Pair<E, K> as Stepper>⟧.parts self.old history.old) (⟦<Pair<E, K> as Stepper>⟧.parts self.new history.new) }
-    {
-        self.sessions.write(&mut history.transcript, c, n)
-    }
-
-    fn leave(&mut self, c: u64) -> Result<bool, Refusal>
-        ensures does { (history : History) → Does (⟦<Pair<E, K> as Stepper>⟧.parts self.old history) (events.Leave c) result (⟦<Pair<E, K> as Stepper>⟧.parts self.new history) }
-        ensures leaves { (history : History) → Leaves (events.Leave c) result (⟦<Pair<E, K> as Stepper>⟧.parts self.old history) (⟦<Pair<E, K> as Stepper>⟧.parts self.new history) }
-    {
-        Ok(self.sessions.leave(c, &mut self.primary.front))
     }
 }

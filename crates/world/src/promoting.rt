@@ -9,9 +9,9 @@ ghost use Rattle.world.specs.declared.condition.Condition.TheVariants as conditi
 ghost use Rattle.world.specs.declared.history.History.{History};
 
 use crate::condition::Condition;
-use crate::reopening::new_link;
 use crate::history::History;
 use crate::pair::{Pair, Stepper};
+use crate::reopening::new_link;
 use failover::{operator_fence, promote_image};
 use kv_types::Refusal;
 use mv_keyspace::Keyspace;
