@@ -1,8 +1,8 @@
 -- The image of a node that is opened again, and what that leaves of it.
-use Rattle.std.proofs.Common.{◌≡◌, ◌≢◌, ◌⊎◌, inl, ℕ, ◌<◌, Bool, false, List, length, sym, ap, subst, ◌≤◌}
-use Rattle.world.proofs.Words.{AreContentsAt, Breaks, Call, Contents, cut_at, EngineStands, entries_of, ExhaustsReopening, Fault, HasRecord, Holder, image_of, IsDown, IsDurable, IsImage, IsKeyspace-keyspace_after, IsMapOf-unique, IsReopened, IsTable, IsUndamaged, keyspace_after, layout_in, LeavesOnly, LeavesOnly-weaken, map-from_table, Memory, Moves, OpensAtEither, Record, records, Refusal, RefusesReopening, Rests, RestsBeforeReopening, State, StaysReadable, Table}
+use Rattle.std.proofs.Common.{ap, Bool, false, inl, inr, length, List, subst, sym, ℕ, ◌<◌, ◌∙◌, ◌≡◌, ◌≢◌, ◌≤◌, ◌⊎◌}
+use Rattle.world.proofs.Words.{AreContentsAt, Breaks, Call, Contents, cut_at, EngineStands, entries_of, Exhausted, ExhaustsReopening, Fault, HasRecord, Holder, image_of, IsDown, IsDurable, IsImage, IsKeyspace-keyspace_after, IsMapOf-unique, IsReopened, IsTable, IsUndamaged, keyspace_after, layout_in, LeavesOnly, LeavesOnly-weaken, map-from_table, Memory, Moves, OpensAtEither, Record, records, Refusal, RefusesReopening, Rests, RestsBeforeReopening, State, StaysReadable, Table}
 use Rattle.model.specs.declared.record.Role.{Role}
-use Rattle.world.proofs.DownLemmas.{down-floor, down-gaps, down-reopened, restart-moments, settled-image}
+use Rattle.world.proofs.DownLemmas.{down-floor, down-gaps, down-reopened, restart-moments, restart-refused, settled-image}
 
 -- ---- the image
 
@@ -62,6 +62,21 @@ opened-limit holder calls p next old new r down stays same has limit =
           subst (HasRecord holder.lines r) (sym (settled-image old.words image down.settled (subst (λ (d : State). IsImage d.words image) same is))) has;
       limit = limit;
     }
+
+-- why it was refused, and what that leaves
+pub why-not-opened : (holder : Holder) (calls : List Call) (p next : ℕ) (old new : State) (refusal : Refusal) → IsDown holder calls p old → IsNotOpened holder.role old new refusal
+    → ((refusal ≡ Fault) × Breaks holder calls p next old new) ⊎ (((refusal ≡ Memory) × Rests holder calls p old new) ⊎ ((refusal ≡ Exhausted) × RestsBeforeReopening holder calls p next old new))
+why-not-opened holder calls p next old new refusal down refused = elim refused.refused [
+  | inl fault ↦ inl (fault, opened-breaks holder calls p next old new down refused.moments (refused.fault fault))
+  | inr (inl memory) ↦ inr (inl (memory, opened-rests holder calls p old new down refused.moments (refused.failures (λ fault. memory_no_fault (sym memory ∙ fault)))))
+  | inr (inr why) ↦ elim (restart-refused holder calls p old refusal down why.0) [
+    | inl memory ↦ inr (inl (memory, opened-rests holder calls p old new down refused.moments (ap (λ (d : State). d.failures) why.1)))
+    | inr full ↦ inr (inr (full.0, opened-limit holder calls p next old new full.1.0 down refused.moments why.1 full.1.1 full.1.2))
+  ]
+]
+  where
+    memory_no_fault : Memory ≡ Fault → ⊥
+    memory_no_fault is = cc
 
 -- the table of contents at a position is that of the keyspace there
 pub table-there : (holder : Holder) (calls : List Call) (p : ℕ) (contents : Contents) (table : Table) → AreContentsAt holder calls p contents → IsTable contents.versions table

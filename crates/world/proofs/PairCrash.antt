@@ -1,5 +1,4 @@
 -- Which crash of a node may come, and what one between two events leaves of its device.
--- a crash is enabled where its node is in such a call, or goes on between two
 use Rattle.std.proofs.Common.{ap, false, Global, List, Ok, refl, true, Vec, ℕ, ◌&&◌, ◌||◌, ◌∙◌, ◌≡◌}
 use Rattle.world.proofs.Words.{Allowed, AreLives, Arrived, Clients, Condition, Crashed, Cut, has_stopped, Holder, is_between, is_enabled, is_running, is_stopped, IsImage, IsStep, LeavesOnly, LeavesPicked, Life, life_as, Lives, may_cut, Node, NodesRefine, or_right, Pair, Remains, Running, runs, Serving, State, torn, World}
 use Rattle.machine.specs.declared.event.Event.TheVariants as events
@@ -9,6 +8,7 @@ use Rattle.machine.specs.declared.event.Node.{Node as Which}
 use Rattle.world.proofs.PairLives.{stays-acts}
 use Rattle.world.proofs.StepLemmas.{stays-is}
 
+-- a crash is enabled where its node is in such a call, or goes on between two
 pub crash-enabled : {first second : Holder} {lives : Lives} {w : World} (n : Which) (call : Cut) (k : ℕ) (picks : Vec ℕ Global) → AreLives first second lives w
     → is_enabled w (events.Crash n call k picks) ≡ may_cut w n call
 crash-enabled {first} {second} {lives} {w} n call k picks are =

@@ -1,5 +1,5 @@
 -- How the committer and its engine refine the machine's.
-use Rattle.std.specs.Prelude.{◌≡◌, ◌⊎◌, ℕ, ◌+◌, ◌≤◌, Bool, true, false, nat_lt, List, [], ◌∷◌, length}
+use Rattle.std.specs.Prelude.{◌≡◌, ◌⊎◌, ℕ, ◌+◌, Bool, true, false, nat_lt, List, [], ◌∷◌, length}
 use Rattle.world.specs.Words.{AreGroupsOf, AreLawful, AreWorkOf, Call, Contents, Due, Durable, Event, FreeList, Group, Holder, Image, image_of, IsFormatting, IsImage, IsSettled, IsUndamaged, Keeps, LeavesOnly, MachineCommitter, MachineStage, positions_of_lists, reached_by, Ready, Shown, Stage, StandsAt, State, Waiting, Work}
 use Rattle.model.specs.declared.record.Role.{Role}
 use Rattle.model.specs.declared.record.TheConstants.{FIRST_EPOCH}
@@ -41,10 +41,6 @@ OpensAtEither holder calls position next image = OpensAt holder calls position i
 -- each crash between these two states of a device leaves an image that opens at one of these two positions of the list
 abbrev pub NearOnly : Holder → List Call → ℕ → ℕ → State → State → Type 0
 NearOnly holder calls position next old new = LeavesOnly old new (OpensAtEither holder calls position next)
-
--- each crash between these two states of a device leaves an image that opens at this position of the list, or at a later one
-abbrev pub FromOnly : Holder → List Call → ℕ → State → State → Type 0
-FromOnly holder calls position old new = LeavesOnly old new (λ image. (p : ℕ) × (position ≤ p) × OpensAt holder calls p image)
 
 -- each crash between these two states of a device leaves an image that opens at one of these two positions of the list, and no fence failed
 pub record Moves (holder : Holder) (calls : List Call) (from to : ℕ) (old new : State) : Type 0 where
