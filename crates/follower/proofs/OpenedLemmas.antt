@@ -68,6 +68,21 @@ opened-limit holder calls p next old new r down stays same has limit =
       limit = limit;
     }
 
+-- why it was refused, and what that leaves
+pub why-not-opened : (holder : Holder) (calls : List Call) (p next : ℕ) (old new : State) (refusal : Refusal) → IsDown holder calls p old → IsNotOpened holder.role old new refusal
+    → ((refusal ≡ Fault) × Breaks holder calls p next old new) ⊎ (((refusal ≡ Memory) × Rests holder calls p old new) ⊎ ((refusal ≡ Exhausted) × RestsBeforeReopening holder calls p next old new))
+why-not-opened holder calls p next old new refusal down refused = elim refused.refused [
+  | inl fault ↦ inl (fault, opened-breaks holder calls p next old new down refused.moments (refused.fault fault))
+  | inr (inl memory) ↦ inr (inl (memory, opened-rests holder calls p old new down refused.moments (refused.failures (λ fault. memory_no_fault (sym memory ∙ fault)))))
+  | inr (inr why) ↦ elim (restart-refused holder calls p old refusal down why.0) [
+    | inl memory ↦ inr (inl (memory, opened-rests holder calls p old new down refused.moments (ap (λ (d : State). d.failures) why.1)))
+    | inr full ↦ inr (inr (full.0, opened-limit holder calls p next old new full.1.0 down refused.moments why.1 full.1.1 full.1.2))
+  ]
+]
+  where
+    memory_no_fault : Memory ≡ Fault → ⊥
+    memory_no_fault is = cc
+
 -- the table of contents at a position is that of the keyspace there
 pub table-there : (holder : Holder) (calls : List Call) (p : ℕ) (contents : Contents) (table : Table) → AreContentsAt holder calls p contents → IsTable contents.versions table
     → records table ≡ keyspace_after (cut_at calls p)

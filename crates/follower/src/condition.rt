@@ -1,5 +1,5 @@
 //! Whether a node runs.
-ghost use Rattle.std.specs.Prelude.{◌≡◌};
+ghost use Rattle.std.specs.Prelude.{◌≡◌, ◌||◌};
 ghost use Rattle.follower.specs.Condition.{has_crashed, has_ended, has_stopped, runs};
 
 /// What a node is between two events.
@@ -24,12 +24,13 @@ impl Condition {
         }
     }
 
-    pub fn has_stopped(self) -> bool
-        ensures { result ≡ has_stopped self }
+    /// A crash may come to it: it runs, or has stopped.
+    pub fn may_crash(self) -> bool
+        ensures { result ≡ (runs self || has_stopped self) }
     {
         match self {
-            Condition::Stopped => true,
-            Condition::Running | Condition::Crashed | Condition::Ended => false,
+            Condition::Running | Condition::Stopped => true,
+            Condition::Crashed | Condition::Ended => false,
         }
     }
 

@@ -1,14 +1,7 @@
 -- What is around the primary still refines the machine's after each kind of change.
 use Rattle.std.proofs.Common.{All, ◌≡◌, inl, inr, ℕ, ◌+◌, ◌<◌, ◌≤◌, false, List, [], ◌++◌, map, Vec, Global, sym, ap, subst, ◌∙◌, arith, true≢false}
-use Rattle.world.specs.Words.{Acknowledgement, At, Call, Connection, crashed, cut_at, Frame, Holder, IsFrameWithin, IsStandbyLeft, left, position_of, promoted, reach, Remains, Role, Sent, Sound, World}
+use Rattle.world.proofs.Words.{Acknowledgement, AreAcksSent, AreFramesRead, AreFramesSent, AroundRefines, ArrivalsRefine, Arrived, At, Call, Clients, ClientsRefine, Condition, Connection, crashed, cut_at, EitherRefines, Ended, Frame, frames_within-weaker, has_crashed, has_ended, has_stopped, Holder, IsFrameWithin, IsOwn, IsStandbyLeft, left, MachineSurroundings, Node, Pair, position_of, promoted, reach, Remains, Role, runs, Sent, Sound, StandbyRefines, Surroundings, surroundings_in, SurroundingsRefine, World}
 use Rattle.machine.specs.declared.event.Node.TheVariants as node
-use Rattle.machine.proofs.GroupLemmas.{frames_within-weaker}
-use Rattle.follower.specs.Condition.{has_crashed, has_ended, has_stopped, runs}
-use Rattle.follower.specs.declared.condition.Condition.{Condition}
-use Rattle.follower.specs.declared.condition.Condition.TheVariants.{Ended}
-use Rattle.world.specs.Link.{AreAcksSent, AreFramesRead, AreFramesSent, IsOwn}
-use Rattle.world.specs.Pair.{AroundRefines, Clients, ClientsRefine, EitherRefines, MachineSurroundings, Pair, Surroundings, SurroundingsRefine, surroundings_in}
-use Rattle.follower.specs.Standby.{Arrived, ArrivalsRefine, Node, StandbyRefines}
 use Rattle.follower.proofs.ArrivalLemmas.{ArrivalsRefine-grows}
 use Rattle.world.proofs.CutLemmas.{AreFramesSent-cut, ArrivalsRefine-cut, IsDown-cut, StandbyStands-cut}
 use Rattle.follower.proofs.DownLemmas.{IsDown-grows}

@@ -1,31 +1,15 @@
 -- The committer and its engine still refine the machine's after each step.
 use Rattle.std.proofs.Common.{rules, ◌≡◌, ◌≢◌, ◌⊎◌, inl, inr, true≢false, ℕ, ◌+◌, ◌-◌, ◌<◌, ◌≤◌, ◌++◌, Bool, true, false, List, [], ◌∷◌, length, map, Result, Err, IfErr, IsErrOf, Global, refl, sym, ap, ap₂, subst, ◌∙◌, arith, le_refl, max}
 use Rattle.std.specs.declared.collections.VecDeque.{VecDeque}
-use Rattle.world.specs.Words.{after_group, AreGroupsOf, AreLawful, AreWorkOf, Call, Commit, committed_first, Contents, COUNTER_LIMIT, Done, Durable, Exhausted, Exhausts, Fault, Freed, FreeList, from_group, Goes, Group, handed, Holder, Image, IsDurable, IsGroup, IsImage, Keeps, last_position, LeavesOnly, MachineStage, MachineWork, may_happen, PIPE_ITEMS, position_of, positions_of_lists, raised_local, Ready, ready_again, Refusal, Remembers, Same, Sequencing, Shown, Sound, Span, Stage, STAMP_WINDOW, State, Versions, Waiting, Work, World}
-use Rattle.world.proofs.Words.{group_lawful, HasRecord-lines, le-max_left, leads_renumbered, LeavesOnly-weaken, length-groups, map-append, Same-is}
+use Rattle.world.proofs.Words.{after_group, AreContentsAt, AreGroupsOf, AreGroupsOf-grows, AreGroupsOf-push, AreLawful, AreOfEpoch, AreParts, AreWork, AreWorkOf, AreWorkOf-grows, Call, Commit, committed_first, Committing, CommittingRefines, Contents, COUNTER_LIMIT, Done, Durable, EndsBy, EngineStands, Exhausted, Exhausts, Fault, floored, Freed, FreeList, from_group, Goes, Group, group_lawful, groups_of, Hand, handed, HasCommitted, HasRecord-lines, HasRoomFor, HasShown, Holder, Image, is_durable, is_shown, IsAtLimit, IsConsistent, IsDurable, IsGroup, IsImage, Keeps, last_position, lawful_renumbered, le-max_left, Leads, leads-after, leads_renumbered, LeavesOnly, LeavesOnly-weaken, length-groups, MachineStage, MachineWork, map-append, may_happen, NearOnly, next_primary, OpensAtEither, part_versions, past_of, PIPE_ITEMS, position_of, positions_of_lists, raised_local, RaiseLocal, Ready, ready_again, Refusal, Remembers, remembers-committed, RemembersFor, Same, Same-is, same_lawful, Sequencing, Shown, shown, Sound, Span, Stage, StageRefines, STAMP_WINDOW, State, Versions, Waiting, Work, World}
 use Rattle.model.specs.declared.group.Part.{Part}
 use Rattle.model.specs.declared.record.Role.TheVariants as role
 use Rattle.model.specs.declared.work.Work.TheVariants as work
-use Rattle.model.specs.Floor.{floored}
-use Rattle.model.specs.Group.{AreParts, IsConsistent, part_versions}
-use Rattle.wbl_engine.proofs.LawfulLemmas.{same_lawful}
-use Rattle.group_commit.specs.Committing.{HasCommitted, HasShown}
-use Rattle.group_commit.specs.Group.{AreWork, groups_of}
 use Rattle.group_commit.proofs.WorkLemmas.{AreWork-behind, groups_of-lists}
-use Rattle.machine.specs.declared.event.Event.TheVariants.{Hand, RaiseLocal}
-use Rattle.machine.specs.Event.{Committer as Machine, is_durable, is_shown, shown}
+use Rattle.machine.specs.Event.{Committer as Machine}
 use Rattle.machine.specs.World as machine_stage
-use Rattle.machine.specs.Sound.{HasRoomFor}
-use Rattle.world.specs.Cause.{IsAtLimit, EndsBy}
-use Rattle.world.specs.Committing.{AreContentsAt, AreOfEpoch, Committing, CommittingRefines, EngineStands, Leads, StageRefines, OpensAtEither, NearOnly, next_primary}
-use Rattle.primary.proofs.RecallParts.{remembers-committed}
-use Rattle.world.specs.Recalling.{RemembersFor, past_of}
 use Rattle.world.proofs.EngineLemmas.{AreContentsAt-after_group, Opens-engine, keeps-opens, rests-same}
 use Rattle.node_steps.proofs.CommittingLemmas.{FirstGroup, first-group}
-use Rattle.node_steps.proofs.GroupSpanLemmas.{AreGroupsOf-grows, AreGroupsOf-push}
-use Rattle.node_steps.proofs.QueueLemmas.{AreWorkOf-grows}
-use Rattle.primary.proofs.LeadsLemmas.{leads-after}
-use Rattle.primary.proofs.NumberedLemmas.{lawful_renumbered}
 use Rattle.world.proofs.RecallLemmas.{remembered-from, remembers-raised, remembers-renumbered}
 use Rattle.follower.proofs.RoleLemmas.{newcomer_serves}
 

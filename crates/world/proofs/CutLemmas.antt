@@ -1,13 +1,6 @@
 -- A crash of the primary cuts the list of calls: what stands at positions up to the cut still stands.
 use Rattle.std.proofs.Common.{rules, ◌≡◌, ℕ, ◌≤◌, inl, inr, Bool, List, ◌∷◌, All, Vec, Global, sym, ap, subst, ◌∙◌, arith, []}
-use Rattle.world.specs.Words.{Acknowledgement, Call, Changes, Contents, cut_at, entries_of, Frame, Holder, IsFrameWithin, IsMapOf, keyspace_after, play_all, position_of, Role, Sent, Span, State, Told}
-use Rattle.world.proofs.Words.{All-head, All-tail, cases_lt, position_of-cut_at}
-use Rattle.model.proofs.CallsLemmas.{IsPrefix-cut_at, cut_at-all}
-use Rattle.machine.specs.Sound.{IsGroupWithin, IsToldOf}
-use Rattle.machine.proofs.GrowLemmas.{cuts-stay}
-use Rattle.world.specs.Committing.{AreContentsAt, EngineStands, IsDown}
-use Rattle.world.specs.Link.{LiesWithin, IsFrameOf, IsFrameRead, AreFramesRead, AreFramesSent, span_of}
-use Rattle.follower.specs.Standby.{Arrived, Node, StandbyStands, ArrivalsRefine}
+use Rattle.world.proofs.Words.{Acknowledgement, All-head, All-tail, AreContentsAt, AreFramesRead, AreFramesSent, ArrivalsRefine, Arrived, Call, cases_lt, Changes, Contents, cut_at, cut_at-all, cuts-stay, EngineStands, entries_of, Frame, Holder, IsDown, IsFrameOf, IsFrameRead, IsFrameWithin, IsGroupWithin, IsMapOf, IsPrefix-cut_at, IsToldOf, keyspace_after, LiesWithin, Node, play_all, position_of, position_of-cut_at, Role, Sent, Span, span_of, StandbyStands, State, Told}
 
 -- the keyspace up to the cut is that of the whole list
 pub keyspace_after-cut_at-cut : (calls : List Call) (n p : ℕ) → p ≤ n → keyspace_after (cut_at (cut_at calls n) p) ≡ keyspace_after (cut_at calls p)

@@ -1,13 +1,9 @@
 -- What an event does to the device of a node: it moves on, stays as it was, a call on it is cut, or the node stops.
 use Rattle.std.proofs.Common.{◌≡◌, ◌⊎◌, ℕ, Bool, true, false, not, ◌&&◌, ◌||◌, List, [], ◌∷◌, ◌++◌, refl, sym, ap, ap₂, subst, ◌∙◌, inl, inr, true≢false, Result, Ok, Err, IfOk}
-use Rattle.world.specs.Words.{At, Call, Committer, Cut, Event, Holder, Image, is_between, is_stopped, LeavesOnly, left_by, life_of, Node, position_at, Refusal, Remains, State, torn, World}
-use Rattle.world.proofs.Words.{LeavesOnly-weaken, none_leaves}
+use Rattle.world.proofs.Words.{At, Call, call_of, Cut, cut_short, Event, has_begun, Holder, Image, is_between, is_cut, is_stopped, LeavesOf, LeavesOnly, LeavesOnly-weaken, left_by, life_of, MovesAs, MovesNear, none_leaves, OnDid, OpensAsOne, OpensNear, position_at, Refusal, Remain, Remains, State, stops_between, torn, World}
+use Rattle.world.specs.Words.{Node}
 use Rattle.machine.specs.declared.event.Cut.TheVariants as cut
-use Rattle.world.specs.Effect.{LeavesOf, OnDid}
-use Rattle.world.specs.Remaining.{MovesAs, MovesNear, OpensAsOne, OpensNear, Remain, cut_short, is_cut, stops_between}
-use Rattle.world.specs.Stopping.{call_of}
 use Rattle.world.proofs.StopLemmas.{StopsThere}
-use Rattle.world.specs.Step.{has_begun}
 
 one-more : (remains more : List Remains) (holder : Holder) (calls : List Call) (p : ℕ) (image : Image) → OpensAsOne holder calls p remains image → OpensAsOne holder calls p (remains ++ more) image
 one-more [] more holder calls p image one = absurd one
@@ -69,10 +65,6 @@ module _ (holder : Holder) (w : World) (event : Event) (w' : World) (n : Node) (
 pub cut-or-still : (call : Cut) (k : ℕ) (picks : List ℕ) (old new : State) → LeavesOf call k picks old new → (not (is_between call) ≡ true) ⊎ (new.failures ≡ old.failures)
 cut-or-still cut.Between k picks old new left = inr left.1
 cut-or-still call k picks old new left = inl refl
-
--- the device of a committer that became another one over the same engine
-pub engine-stays : {E : Type 0} (device : E → State) (before after then : Committer E) → after ≡ then → then.engine ≡ before.engine → device after.engine ≡ device before.engine
-engine-stays {E} device before after then is same = ap (λ (k : Committer E). device k.engine) is ∙ ap device same
 
 -- an event that did not begin was not enabled
 pub not-begun : (result : Result Bool Refusal) → has_begun result ≡ false → result ≡ Ok false

@@ -1,32 +1,17 @@
 -- New images, the tables and heaps with which they begin, and a primary that nothing waits for.
 use Rattle.std.proofs.Common.{rules, ◌≡◌, ℕ, ◌<◌, ◌≤◌, ◌⊎◌, ◌↔◌, Bool, false, true≢false, IsTrue, ◌∙◌, List, ◌∷◌, length, Ok, Err, refl, sym, ap, subst, arith, inl, inr, Vec, Global, []}
-use Rattle.world.specs.Words.{AreEnded, AreWorkOf, Call, Contents, entries_of, EntryNo, Expects, Fault, Follows, Freed, FreeList, Holder, IsAheadOf, IsDurable, IsFormatting, MAX_LINES, MIN_LINES, new_committer, new_holder, new_stream, positions_of_lists, Ready, records, Refusal, Room, seats_of, SeatsFollow, SequencerRefines, Sequencing, Stage, State, Stream, Table, Work, WrongSize}
-use Rattle.world.proofs.Words.{All-nil, cases_lt, HasAll, none_leaves, sound-start}
+use Rattle.world.proofs.Words.{All-nil, allowed, AreEnded, AreFramesSent, AreWorkOf, ArrivalsRefine, Call, cases_lt, ClientsRefine, Committing, CommittingRefines, ConnectionsRefine, Contents, EngineStands, entries_of, EntryNo, Expects, Fault, follows-new, FormattingOnly, Freed, FreeList, fresh_room, has_crashed, has_stopped, HasAll, Holder, is_free_entry, is_free_line, IsAheadOf, IsDurable, IsFormatting, IsMapOf-none, IsNew, IsOwn, IsWrongSize, Leads, left-new, life_as, Lives, MAX_LINES, MIN_LINES, new-consistent, new-table, new_committer, new_holder, new_lawful, new_stream, Node, NodesRefine, none_leaves, Pair, past_of, positions_of_lists, primary_number, Ready, records, Refusal, RemembersFor, Room, runs, seats_of, SeatsFollow, SequencerRefines, Sequencing, sound-start, Stage, StageRefines, StandbyStands, start, State, Stream, Table, Underlies, UnformedBy, Work, WrongSize}
+use Rattle.world.specs.Words.{Follows}
 use Rattle.model.specs.declared.layout.TheConstants.{LAYOUT}
 use Rattle.model.specs.Layout.{entries_of_lines, first_extent_line}
 use Rattle.model.specs.declared.record.Role.{Role}
 use Rattle.model.specs.declared.record.Gap.{Gap}
 use Rattle.model.specs.declared.record.TheConstants.{FIRST_EPOCH}
-use Rattle.model.proofs.MapLemmas.{IsMapOf-none}
-use Rattle.extent_heap.specs.Room.{fresh_room, is_free_entry, is_free_line}
 use Rattle.placing.specs.Back.{HasOut}
 use Rattle.placing.proofs.BackLemmas.{fresh-has_out}
-use Rattle.wbl_engine.specs.Contents.{IsNew}
-use Rattle.wbl_engine.proofs.LawfulLemmas.{new_lawful}
-use Rattle.redis_core.specs.Sequencing.{Underlies}
-use Rattle.standby.proofs.NewLemmas.{new-table, left-new, new-consistent, follows-new}
-use Rattle.world.specs.Cause.{IsWrongSize, UnformedBy}
-use Rattle.world.specs.Committing.{Committing, CommittingRefines, FormattingOnly, EngineStands, Leads, StageRefines}
-use Rattle.world.specs.Link.{AreFramesSent, IsOwn}
-use Rattle.connections.specs.Session.{ConnectionsRefine}
 use Rattle.connections.specs.declared.connection.Connection.{Connection}
-use Rattle.follower.specs.Standby.{Node, StandbyStands, ArrivalsRefine}
-use Rattle.world.specs.Headline.{start}
-use Rattle.follower.specs.Condition.{has_crashed, life_as, runs, has_stopped}
 use Rattle.follower.specs.declared.condition.Condition.TheVariants as condition
-use Rattle.world.specs.Pair.{NodesRefine, Pair, allowed, primary_number, ClientsRefine, Lives}
 use Rattle.world.proofs.RecallLemmas.{remembered-new, opening-none}
-use Rattle.world.specs.Recalling.{RemembersFor, past_of}
 use Rattle.world.proofs.LinkLemmas.{link-nothing}
 
 -- ---- the sequencer

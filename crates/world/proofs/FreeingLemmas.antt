@@ -1,14 +1,9 @@
 -- What freeing, and clearing a gap, leave of the primary's engine.
 use mathlib.Core.Path.{fun_ext}
 use Rattle.std.proofs.Common.{rules, arith, ◌≡◌, ◌⊎◌, ◌+◌, ◌<◌, ◌≤◌, ℕ, inl, inr, Bool, true, false, ◌||◌, List, refl, sym, ap, subst, ◌∙◌, true≢false, []}
-use Rattle.world.specs.Words.{after_free, AreEnded, AreLawful, Call, cleared_contents, Clears, Contents, COUNTER_LIMIT, cut_at, entries_of, EntryNo, Event, ExhaustsRaising, floor_raised, Happens, Holder, Image, IsDurable, IsMapOf, Keeps, KeepsFreed, keyspace_after, LeavesOnly, may_happen, Record, Same, State, torn, Versions, without, World}
-use Rattle.world.proofs.Words.{AllEnded, AllEnded-listed, cases_lt, entries_same, lawful_raised, lawful_without, LeavesOnly-weaken, Same-is}
+use Rattle.world.proofs.Words.{after_free, AllEnded, AllEnded-listed, AreContentsAt, AreEnded, AreLawful, Call, cases_lt, cleared_contents, Clears, consistent_cleared, consistent_without, Contents, COUNTER_LIMIT, cut_at, ended_renumbered, EngineStands, entries_of, entries_same, EntryNo, Event, ExhaustsRaising, floor_raised, Happens, Holder, Image, IsDurable, IsMapOf, IsMapOf-contents_without, Keeps, KeepsFreed, keyspace_after, lawful_cleared, lawful_raised, lawful_without, LeavesOnly, LeavesOnly-weaken, Lives, may_happen, NearOnly, OpensAt, OpensAtEither, Pair, PairRefines, PartsRefine, Record, Same, Same-is, State, Steps, torn, Versions, without, World}
 use Rattle.std.specs.List.{IsDistinct}
 use Rattle.model.specs.declared.record.Role.TheVariants as role
-use Rattle.wbl_engine.proofs.WithoutLemmas.{IsMapOf-contents_without, consistent_cleared, consistent_without, lawful_cleared}
-use Rattle.primary.proofs.NumberedLemmas.{ended_renumbered}
-use Rattle.world.specs.Committing.{AreContentsAt, EngineStands, OpensAt, OpensAtEither, NearOnly}
-use Rattle.world.specs.Pair.{Lives, Pair, PairRefines, PartsRefine, Steps}
 use Rattle.world.proofs.RemainLemmas.{near-from}
 use Rattle.follower.proofs.RoleLemmas.{newcomer_or, newcomer_serves}
 use Rattle.world.proofs.PairLemmas.{moves-primary, does-step, steps-to}

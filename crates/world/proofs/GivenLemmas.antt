@@ -1,19 +1,13 @@
 -- What one event of the machine gives: to the list of calls, and to each connection.
 use Rattle.std.proofs.Common.{◌≡◌, ◌⊎◌, ℕ, zero, suc, Bool, true, false, cond, nat_eq, eqb-true, List, [], ◌∷◌, ◌++◌, take, Option, slice_get, refl, sym, ap, ap₂, subst, ◌∙◌, inl, inr, true≢false, not, ◌&&◌}
-use Rattle.std.specs.Prelude.{Contains}
-use Rattle.world.specs.Words.{AckDelivered, Acknowledgement, Apply, AsFollower, AsPrimary, At, Call, called, ClearGap, CloseGroup, Commit, Connection, connection_of, Copying, Crash, crashed, Cut, cut_at, Event, FailFence, Fails, Free, Happens, is_stopped, left, Mark, may_happen, may_remain, Node, nodes_run, PinCopy, position_of, Promote, released_in, Remains, Reopen, Send, sent_with, Sound, Step, told, Turn, with_link, World, Write, torn}
-use Rattle.world.proofs.Words.{and_parts, IsAt, remains-primary, rests-Fails}
-use Rattle.std.proofs.lemmas.Bool.{eq-eqb}
-use Rattle.std.proofs.lemmas.List.{append-nil}
-use Rattle.machine.specs.declared.event.Event.TheVariants.{Enter, Feed, Offer, Hold, Read, Release, Leave}
+use Rattle.world.proofs.Words.{AckDelivered, Acknowledgement, and_parts, append-nil, Apply, AsFollower, AsPrimary, At, Call, called, calls_left, CallsBy, ClearGap, CloseGroup, Commit, Connection, connection_of, Contains, Copying, Crash, crashed, Cut, cut_at, Enter, eq-eqb, Event, FailFence, Fails, fed_with, Feed, Follows, Free, get_connection, Happens, having_read, having_released, held_first, Hold, Inbound, is_stopped, IsAt, Leave, left, Mark, may_happen, may_remain, nodes_run, Offer, offered_next, on_inbound, on_outbound, Outbound, PinCopy, position_of, Promote, Read, Release, released_by, released_in, Remains, remains-primary, Reopen, rests-Fails, Send, sent_with, Sound, Step, stops_between, taken_first, told, torn, Turn, with_call, with_link, with_made, World, Write, written}
+use Rattle.world.specs.Words.{Node}
 use Rattle.machine.specs.declared.event.Cut.TheVariants as cut
 use Rattle.machine.specs.declared.event.Mark.TheVariants.{Local, Remote}
 use Rattle.machine.specs.declared.event.Node.TheVariants as node
-use Rattle.machine.specs.Event.{Follows, Inbound, Outbound, changed_at, fed_with, get_connection, having_read, having_released, held_first, offered_next, on_inbound, on_outbound, taken_first, with_call, with_inbound, with_made, with_outbound, written}
+use Rattle.machine.specs.Event.{changed_at, with_inbound, with_outbound}
 use Rattle.machine.proofs.ConnectionLemmas.{get-changed_other, get-entered}
 use Rattle.machine.proofs.CrashLemmas.{get-over}
-use Rattle.world.specs.Remaining.{stops_between}
-use Rattle.world.specs.Step.{CallsBy, calls_left, released_by}
 use Rattle.world.proofs.StopLemmas.{applied-life, running-goes, running-whole}
 
 -- ---- what was released

@@ -1,19 +1,9 @@
 -- What one event of a run does to both devices, by their numbers.
 use Rattle.std.proofs.Common.{◌≡◌, ◌⊎◌, ℕ, nat_eq, ◌+◌, if◌then◌else◌, Bool, ◌++◌, Option, Some, None, refl, sym, ap, ap₂, subst, ◌∙◌, arith, inl, inr, true, false, true≢false, ◌&&◌}
-use Rattle.world.specs.Words.{Event, Holder, Image, is_retired, LeavesOnly, life_of, Node, position_at, State, torn, touches, World}
-use Rattle.world.proofs.Words.{LeavesOnly-weaken, none_leaves, retired-still}
-use Rattle.std.proofs.lemmas.Bool.{or_parts}
+use Rattle.world.proofs.Words.{Condition, cut_short, Ended, Event, first_device, GoesOn, has_ended, Holder, holder_at, Image, is_cut, is_retired, KeepsNodes, LeavesOnly, LeavesOnly-weaken, life_of, Moved, MovesAs, MovesBy, MovesOn, node_on, NodesRefine, none_leaves, OfSomeNode, OpensAt, OpensNear, OpensThere, or_parts, Pair, Passes, position_at, primary_holder, promoted_holder, Remain, retired-still, second_device, standby_holder, StandsIn, State, stays-step, Steps, stops_between, Succeeds, torn, touches, touches_on, touches_primary, touches_standby, World}
+use Rattle.world.specs.Words.{Node}
 use Rattle.model.specs.declared.record.Role.{Role}
 use Rattle.machine.specs.declared.event.Node.TheVariants as node
-use Rattle.machine.proofs.SureLemmas.{KeepsNodes, stays-step}
-use Rattle.world.specs.Committing.{OpensAt, promoted_holder}
-use Rattle.follower.specs.Condition.{has_ended}
-use Rattle.world.specs.Headline.{GoesOn, Moved, MovesBy, MovesOn, OfSomeNode, OpensThere, Passes, StandsIn, holder_at, node_on, primary_holder, standby_holder, touches_on}
-use Rattle.world.specs.Pair.{NodesRefine, Pair, Steps, Succeeds, first_device, second_device}
-use Rattle.world.specs.Remaining.{MovesAs, OpensNear, Remain, cut_short, is_cut, stops_between}
-use Rattle.world.specs.Step.{touches_primary, touches_standby}
-use Rattle.follower.specs.declared.condition.Condition.{Condition}
-use Rattle.follower.specs.declared.condition.Condition.TheVariants.{Ended}
 use Rattle.world.proofs.DeviceLemmas.{still-before}
 use Rattle.world.proofs.LivesLemmas.{retired-as}
 use Rattle.world.proofs.PairLemmas.{primary-stands}

@@ -1,19 +1,11 @@
 -- How an image opens that a call may have left: at a position of the list or at a later one, or as that of a primary.
 use Rattle.std.proofs.Common.{◌≡◌, ◌⊎◌, ℕ, ◌≤◌, List, [], ◌∷◌, ◌++◌, refl, subst, sym, arith, le_refl, inl, inr}
-use Rattle.std.specs.Prelude.{All}
-use Rattle.world.specs.Words.{AsFollower, AsPrimary, At, Call, Commits, committed_first, Crash, cut_at, Event, Frees, from_group, Holder, Holds, Image, IsChain, IsStandbyLeft, keyspace_after, left_by_first, life_of, Node, position_at, position_of, reach, Remains, Role, Sound, spans_of, torn, World}
-use Rattle.world.proofs.Words.{All-append, All-cons, All-head, All-nil, All-tail}
-use Rattle.std.proofs.lemmas.List.Elements.{All-weaker}
+use Rattle.world.proofs.Words.{All, All-append, All-cons, All-head, All-nil, All-tail, All-weaker, AsFollower, AsPrimary, At, Call, Commits, committed_first, Crash, cut_at, cut_short, Event, Frees, from_group, Holder, Holds, Image, IsChain, IsPrimaryLeft, IsStandbyLeft, keyspace_after, left-first, left_by_first, life_of, moved_by, next_at, opens_as, opens_during, OpensAsOne, OpensAt, OpensFrom, OpensFromEither, OpensNear, position_at, position_of, promoted_holder, reach, Remains, Role, Sound, spans_of, torn, World}
+use Rattle.world.specs.Words.{Node}
 use Rattle.machine.specs.declared.event.Cut.TheVariants as cut
 use Rattle.machine.specs.declared.event.Node.TheVariants as node
 use Rattle.machine.specs.Event.{Committer, Work}
-use Rattle.machine.specs.Sound.{IsPrimaryLeft}
-use Rattle.machine.proofs.StandbyLemmas.{left-first}
 use Rattle.machine.proofs.WorkLemmas.{spans_of-from_group}
-use Rattle.world.specs.Committing.{OpensAt, promoted_holder}
-use Rattle.world.specs.Remaining.{OpensAsOne, OpensNear, cut_short}
-use Rattle.follower.specs.Following.{moved_by}
-use Rattle.world.specs.Headline.{OpensFrom, OpensFromEither, next_at, opens_as, opens_during}
 use Rattle.world.proofs.CutLemmas.{keyspace_after-cut_at-cut}
 
 -- ---- the list

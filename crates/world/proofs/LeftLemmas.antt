@@ -1,15 +1,10 @@
 -- The images that a call of the primary may leave where a crash cuts it, or a fence fails in it.
-use Rattle.std.proofs.Common.{rules, ◌≡◌, ◌≤◌, Bool, true, false, ◌&&◌, List, [], ◌∷◌, ◌++◌, refl, sym, ap, subst, ◌∙◌, arith, le_refl, append-nil, true≢false}
-use Rattle.std.specs.Prelude.{Contains}
-use Rattle.world.specs.Words.{AreLawful, At, Contents, Cut, halted, Holder, Image, is_between, is_crashed, is_running, Keeps, LeavesOnly, left_by, Life, may_clear, may_commit, may_cut, may_free, position_of, Remains, Sound, State, torn, with_life, World}
-use Rattle.world.proofs.Words.{and_parts, none_leaves}
+use Rattle.std.proofs.Common.{[], ap, append-nil, arith, Bool, false, inl, inr, le_refl, List, refl, rules, subst, sym, true, true≢false, ◌&&◌, ◌++◌, ◌∙◌, ◌∷◌, ◌≡◌, ◌≤◌}
+use Rattle.world.proofs.Words.{and_parts, AreContentsAt, AreLawful, At, Contains, Contents, Cut, halted, Holder, Image, is_between, is_crashed, is_running, IsImage, Keeps, LeavesOnly, left_by, LeftBy, Life, may_clear, may_commit, may_cut, may_free, next_primary, NodesRefine, none_leaves, Pair, PartsRefine, past_of, position_of, RecallsFor, Remains, Sound, State, torn, with_life, World}
 use Rattle.machine.specs.declared.event.Cut.TheVariants as cut
 use Rattle.machine.specs.declared.event.Node.TheVariants as node
 use Rattle.machine.specs.Event as machine
-use Rattle.world.specs.Committing.{AreContentsAt, next_primary}
-use Rattle.world.specs.Pair.{Pair, PartsRefine}
-use Rattle.world.specs.Recalling.{RecallsFor, past_of}
-use Rattle.world.specs.Remaining.{LeftBy}
+use Rattle.follower.proofs.DownLemmas.{settled-image}
 use Rattle.world.proofs.PairLemmas.{primary-within}
 use Rattle.world.proofs.RecallLemmas.{recalled-each}
 use Rattle.world.proofs.StopLemmas.{running-whole}
@@ -90,3 +85,24 @@ left-halted holder w call image whole left =
 -- it is fenced
 pub left-fenced : (holder : Holder) (w : World) (image : Image) → LeftBy holder w cut.Between image → LeftBy holder (with_life node.Primary (machine.Retired (torn w.primary.life)) w) cut.Between image
 left-fenced holder w image left = search (rules, left)
+
+-- ---- a crash between two calls
+
+-- the primary's device holds what a crash may leave of it now, whatever its condition
+pub primary-left : (first second : Holder) (old : Pair) (w : World) → NodesRefine first second old w → (image : Image) → IsImage old.primary.device.words image → LeftBy first w cut.Between image
+primary-left first second old w stands image is = elim stands.parts [
+  | inl up ↦ left-running first second old w cut.Between image stands.sound up.1 (up.1.engine.durable image is)
+  | inr (inl down) ↦
+      let there = down.1.image in
+      left-there first w cut.Between there.contents image stands.sound there.contents_at there.lawful down.1.recalls
+      (subst (Keeps there.contents) (sym (settled-image old.primary.device.words image there.settled is)) there.keeps)
+  | inr (inr still) ↦ still.1.left image is
+]
+
+-- and has the lines of its holder
+pub primary-lines : (first second : Holder) (old : Pair) (w : World) → old.primary.contents.lines ≡ old.primary.device.lines → NodesRefine first second old w → old.primary.device.lines ≡ first.lines
+primary-lines first second old w sized stands = elim stands.parts [
+  | inl up ↦ sym sized ∙ up.1.engine.contents_at.lines_are
+  | inr (inl down) ↦ sym down.1.image.sized ∙ down.1.image.contents_at.lines_are
+  | inr (inr still) ↦ still.1.lines_are
+]

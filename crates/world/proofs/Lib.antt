@@ -25,7 +25,6 @@ pub mod PairCrash
 pub mod PairReopen
 pub mod PairCut
 pub mod PairCutStep
-pub mod PairStopped
 pub mod PairStopping
 pub mod PairFailing
 pub mod PromotionLemmas

@@ -1,21 +1,13 @@
 -- How the link refines the machine's, and what it learns from an acknowledgement.
 use Rattle.std.proofs.Common.{rules, ◌≡◌, inl, inr, ℕ, zero, suc, ◌+◌, ◌-◌, ◌<◌, List, ◌∷◌, ◌++◌, length, take, drop, Option, Some, None, Result, Ok, Err, IfOk, IfErr, refl, sym, ap, ap₂, subst, ◌∙◌, nat_lt, ◌&&◌, ◌||◌, Bool, true, false, length-append, add-one, arith, [], ◌≤◌, max, cond}
 use Rattle.std.proofs.Math.Bool.{and-false}
-use Rattle.std.proofs.Math.Nat.{eq-or-lt_of_le}
-use Rattle.world.specs.Words.{acknowledged, AreGroupsOf, Call, changes_size, Copying, cut_at, Frame, Group, is_nonempty, IsChain, IsGroupOf, IsLegal, KEPT_GROUPS, keyspace_after, knowing, Memory, new_link, new_stream, next_to_send, option_items, play_all, Refusal, sent_next, Span, Stream, Waiting}
-use Rattle.world.proofs.Words.{cases_lt, keyspace_after-cut_at-since, le-ltb, lt-ltb, le-leb}
-use Rattle.std.proofs.lemmas.List.{drop_all}
-use Rattle.std.specs.Prelude.{slice_get}
+use Rattle.world.proofs.Words.{above, acknowledged, AreFramesOf, AreGroupsOf, AreGroupsOf-grows, Call, cases_lt, changes_size, Copying, cut_at, drop_all, ended_at, eq-or-lt_of_le, Frame, Frames, Group, is_nonempty, IsChain, IsDue, IsFrameOf, IsFull, IsGroupOf, IsLegal, KEPT_GROUPS, keyspace_after, keyspace_after-cut_at-since, knowing, le-leb, le-ltb, LinkRefines, LocalTakes, lt-leb, lt-ltb, Memory, new_link, new_stream, next_to_send, option_items, play_all, Refusal, sent_group, sent_next, sent_waiting, slice_get, Span, Stream, TakesNext, Waiting}
 use Rattle.model.proofs.SizeLemmas.{changes_of_group_within}
-use Rattle.machine.specs.Event.{sent_group, sent_waiting, above, ended_at, Link as Machine}
-use Rattle.pipes.specs.Waiting.{LocalTakes}
-use Rattle.standby_stream.specs.Stream.{TakesNext, IsFull, IsDue, Frames, IsFrameOf as IsFramed, above as frames_above}
+use Rattle.machine.specs.Event.{Link as Machine}
+use Rattle.standby_stream.specs.Stream.{IsFrameOf as IsFramed, above as frames_above}
 use Rattle.standby_stream.specs.Copying.{ended_at as stage_at}
 use Rattle.standby_stream.specs.declared.copying.Copying.TheVariants as stages
-use Rattle.world.specs.Link.{IsFrameOf, AreFramesOf, LinkRefines}
-use Rattle.node_steps.proofs.GroupSpanLemmas.{AreGroupsOf-grows}
 use Rattle.follower.proofs.FrameLemmas.{AreFramesOf-grows, AreFramesOf-push, length-frames}
-use Rattle.std.proofs.lemmas.Bool.{lt-leb}
 
 -- a link that was made anew, before anything is handed on to it
 pub link-nothing : (calls : List Call) (code : Stream) (handed : Waiting Group) (remote epoch : ℕ) → handed.items ≡ [] → code ≡ new_stream epoch → remote ≡ 0 → LinkRefines calls code handed remote new_link

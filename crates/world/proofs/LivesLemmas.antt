@@ -1,14 +1,10 @@
 -- Which nodes run, before an event and after it.
-use Rattle.std.proofs.Common.{◌≡◌, Bool, true, false, ◌&&◌, ◌||◌, Option, slice_get, refl, sym, ap, subst, ◌∙◌, inl, inr, List, [], true≢false}
-use Rattle.world.specs.Words.{AckDelivered, Acknowledgement, Apply, are_running, Awaited, Changes, ClearGap, CloseGroup, Commit, Copying, Crash, End, Event, FailFence, Fence, Follower, Free, Happens, Holder, is_crashed, is_enabled, is_retired, is_running, is_stopped, Life, may_happen, Newcomer, nodes_run, Part, PinCopy, Promote, Remains, Reopen, Role, row, Send, Sending, sent_with, Span, Takes, TakesChanges, TakesOwn, Told, told, torn, Turn, with_link, World}
-use Rattle.machine.specs.declared.event.Runners.{Runners}
+use Rattle.std.proofs.Common.{[], ap, Bool, false, inl, inr, List, Option, refl, slice_get, subst, sym, true, true≢false, ◌&&◌, ◌||◌, ◌∙◌, ◌≡◌}
+use Rattle.world.proofs.Words.{AckDelivered, Acknowledgement, Apply, are_running, AreLives, Awaited, Changes, ClearGap, CloseGroup, Commit, Condition, Copying, Crash, Crashed, Disk, End, Ended, Event, FailFence, Fence, Follower, Follows, Free, Happens, has_crashed, has_ended, has_stopped, Holder, is_crashed, is_enabled, is_retired, is_running, is_still, is_stopped, Life, life_as, Lives, may_happen, Newcomer, nodes_run, NodesRefine, Pair, PairRefines, Part, PinCopy, Promote, Remains, Reopen, Role, row, Running, runs, Send, Sending, sent_with, Span, StillRefine, Stopped, Takes, TakesChanges, TakesOwn, Told, told, torn, Turn, Uncopied, with_link, World}
 use Rattle.machine.specs.declared.event.Runners.TheVariants as runners
 use Rattle.machine.specs.World as machine
-use Rattle.machine.specs.Event.{Disk, Follows, Frame, Standby, Uncopied}
-use Rattle.world.specs.Pair.{AreLives, Lives, NodesRefine, Pair, PairRefines, StillRefine}
-use Rattle.follower.specs.Condition.{has_crashed, has_ended, has_stopped, is_still, life_as, runs}
-use Rattle.follower.specs.declared.condition.Condition.{Condition}
-use Rattle.follower.specs.declared.condition.Condition.TheVariants.{Running, Stopped, Crashed, Ended}
+use Rattle.machine.specs.Event.{Frame, Standby}
+use Rattle.machine.specs.declared.event.Runners.{Runners}
 
 -- ---- kinds of events
 
@@ -224,10 +220,10 @@ not-over condition up = still-over condition (runs-whole condition up)
 pub crashed-not-over : (condition : Condition) → has_crashed condition ≡ true → has_ended condition ≡ false
 crashed-not-over condition down = still-over condition (crashed-whole condition down)
 
--- one that has stopped was not promoted
-pub stopped-not-over : (condition : Condition) → has_stopped condition ≡ true → has_ended condition ≡ false
-stopped-not-over Ended stopped = absurd (true≢false (sym stopped))
-stopped-not-over condition stopped = refl
+-- one that goes on was not promoted
+pub goes-not-over : (condition : Condition) → (runs condition || has_stopped condition) ≡ true → has_ended condition ≡ false
+goes-not-over Ended goes = absurd (true≢false (sym goes))
+goes-not-over condition goes = refl
 
 pub stopped-still : (condition : Condition) → has_stopped condition ≡ true → is_still condition ≡ true
 stopped-still condition stopped = ap (λ b. b || has_ended condition) stopped

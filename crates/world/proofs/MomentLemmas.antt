@@ -1,15 +1,11 @@
 -- The moments of a device over a run, of what each event did to it.
 use Rattle.std.proofs.Common.{◌≡◌, ◌⊎◌, ℕ, ◌≤◌, Bool, List, [], ◌∷◌, ◌++◌, Option, Some, None, refl, sym, ap, subst, ◌∙◌, arith, le_refl, inl, inr}
-use Rattle.world.specs.Words.{Call, cut_at, Event, Holder, Image, IsReleased, last_world, LeavesOnly, life_of, Node, position_at, position_of, released_in, Run, Sound, State, Step, torn, World}
-use Rattle.world.proofs.Words.{chain-le, grows-step, LeavesOnly-then, LeavesOnly-weaken, none_leaves, position_of-cut_at, released-held, sound-step}
+use Rattle.world.proofs.Words.{AreMoments, AreMoves, Call, chain-le, cut_at, cut_short, EndsAs, Event, grows-step, Holder, holder_at, Image, IsReleased, keyspace-stays, last_world, LeavesOnly, LeavesOnly-then, LeavesOnly-weaken, life_of, MovesBy, MovesOn, next_at, node_on, none_leaves, OfNode, OfSomeNode, opens_as, opens_during, OpensAt, OpensIn, OpensNear, OpensThere, Passes, position_at, position_of, position_of-cut_at, promoted_holder, released-held, released_in, Run, Sound, sound-step, State, Step, Stretch, torn, World}
+use Rattle.world.specs.Words.{Node}
 use Rattle.model.specs.declared.record.Role.TheVariants as role
 use Rattle.machine.specs.declared.event.Node.TheVariants as node
 use Rattle.machine.specs.Law.{Grows}
-use Rattle.machine.proofs.GrowLemmas.{keyspace-stays}
-use Rattle.world.specs.Cause.{Stretch}
-use Rattle.world.specs.Committing.{OpensAt, promoted_holder}
-use Rattle.world.specs.Headline.{AreMoments, AreMoves, EndsAs, MovesBy, MovesOn, OfNode, OfSomeNode, Opening, OpensIn, OpensThere, Passes, holder_at, next_at, node_on, opens_as, opens_during}
-use Rattle.world.specs.Remaining.{OpensNear, cut_short}
+use Rattle.world.specs.Headline.{Opening}
 use Rattle.world.proofs.LeadLemmas.{MayLead, OpensAt-cut, OpensAt-like, as-from, as-lead, as-lower, as-more, as-near, during-near, near-split, none-leads, onward, primary-between, torn-from}
 use Rattle.world.proofs.GivenLemmas.{lies-step}
 

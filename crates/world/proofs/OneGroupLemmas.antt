@@ -1,13 +1,9 @@
 -- A commit of all groups that wait is one of the first group, where the link tells of room for one.
 use Rattle.std.proofs.Common.{◌≡◌, ◌⊎◌, inl, inr, ℕ, zero, suc, ◌<◌, ◌≤◌, ◌++◌, Bool, false, List, [], ◌∷◌, length, map, Result, Ok, Err, IsErrOf, refl, sym, ap, subst, ◌∙◌, append-nil, arith}
-use Rattle.world.specs.Words.{Committer, Contents, Done, Exhausted, Exhausts, FreeList, Group, Keeps, LeavesOnly, Refusal, Same, State, Waiting, Work}
-use Rattle.world.proofs.Words.{LeavesOnly-weaken}
+use Rattle.world.proofs.Words.{AreTakenEach, Committer, Contents, Done, Exhausted, Exhausts, FreeList, Group, groups_of, Keeps, LeavesOnly, LeavesOnly-weaken, min-le_left, Refusal, Same, State, TakesGroups, Waiting, Work}
 use Rattle.model.specs.declared.work.Work.TheVariants as work
-use Rattle.std.proofs.Math.Nat.{min-le_left}
 use Rattle.wbl_engine.specs.CommittingAll.{AfterSome, ExhaustsOne}
 use Rattle.group_commit.specs.Committing.{Commits as CommitsAll}
-use Rattle.group_commit.specs.Group.{groups_of}
-use Rattle.group_commit.specs.Working.{AreTakenEach, TakesGroups}
 use Rattle.world.proofs.CommittingLemmas.{made}
 
 -- ---- one group

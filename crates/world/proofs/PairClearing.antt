@@ -1,25 +1,16 @@
 -- What clearing a gap does to the pair, of what it does to its parts.
 use Rattle.std.proofs.Common.{rules, ◌≡◌, ◌+◌, ◌-◌, ◌<◌, ℕ, inl, inr, Bool, true, false, nat_lt, List, ◌∷◌, ◌++◌, length, Result, Ok, Err, refl, sym, ap, subst, ◌∙◌, arith, length-append, []}
-use Rattle.world.specs.Words.{AreWorkOf, cleared_contents, Committer, Contents, COUNTER_LIMIT, Done, due_now, Freed, Group, Holder, LeavesOnly, may_happen, Memory, notices_of, positions_of_lists, Record, Refusal, Stage, State, Waiting, Work, World}
-use Rattle.world.proofs.Words.{cases_lt, LeavesOnly-weaken, length-drop, none_leaves}
-use Rattle.group_commit.specs.Working.{ClearsGap}
+use Rattle.world.proofs.Words.{AreWorkOf, cases_lt, clear-now, cleared_contents, ClearIsDue, ClearsGap, ClearsOldest, Committer, CommittingRefines, Contents, COUNTER_LIMIT, Does, Done, due_now, Freed, FreeingRefines, Group, Holder, Leads, Leads-cleared, LeavesOnly, LeavesOnly-weaken, LeftBy, length-drop, link_has_room, may_happen, Memory, none_leaves, notices_of, OpensAt, Pair, PairRefines, PartsRefine, past_of, positions_of_lists, Record, Refusal, RemembersFor, Stage, StageRefines, State, Waiting, Work, World}
 use Rattle.group_commit.specs.declared.due.Due.TheVariants as due
-use Rattle.group_commit.proofs.DueLemmas.{ClearIsDue, clear-now}
 use Rattle.machine.specs.declared.event.Cut.TheVariants as cut
 use Rattle.machine.specs.declared.event.Event.TheVariants as events
 use Rattle.machine.specs.Event as machine
-use Rattle.world.specs.Committing.{CommittingRefines, Leads, OpensAt, StageRefines, link_has_room}
-use Rattle.world.specs.Pair.{Does, FreeingRefines, Pair, PairRefines, PartsRefine}
-use Rattle.world.specs.Effect.{ClearsOldest}
 use Rattle.world.proofs.RecallLemmas.{recalled-cleared, recalled-each, remembered-same}
-use Rattle.world.specs.Recalling.{RemembersFor, past_of}
 use Rattle.world.proofs.EngineLemmas.{Opens-engine}
-use Rattle.primary.proofs.FreedQueue.{Leads-cleared}
 use Rattle.world.proofs.PairLemmas.{stays-does, steps-only}
 use Rattle.world.proofs.QueueLemmas.{clear-disabled, clear-enabled}
 use Rattle.world.proofs.PairTurns.{Took, Waiting-same, pair_of, pair_with}
 use Rattle.world.proofs.FreeingLemmas.{cleared-moments, contents-cleared, engine-cleared, lawful-cleared, primary-steps, stays-near}
-use Rattle.world.specs.Remaining.{LeftBy}
 use Rattle.world.proofs.LeftLemmas.{left-running, left-still, left-there}
 use Rattle.world.proofs.PairFreeing.{fault-does, limit-does, refused-does}
 

@@ -1,25 +1,15 @@
 -- What closing a group, and taking a notice of what was freed, do to the pair.
 use Rattle.std.proofs.Common.{rules, ◌≡◌, inl, inr, ◌+◌, Bool, true, false, List, length, Result, Ok, Err, IfOk, IfErr, OnErr, refl, sym, ap, ap₂, subst, ◌∙◌, length-append, true≢false, ◌∷◌, ◌++◌, arith, le_refl, []}
-use Rattle.world.specs.Words.{AreWorkOf, ClosesOne, Commits, Frees, Holder, IsChain, MachineWork, may_happen, Memory, position_of, Refusal, seats_of, Sequencing, spans_of, Waiting, Work, World, Contents, EntryNo, Expects, Freed, IsAheadOf, SeatsFollow, SequencerRefines, TakesBack}
+use Rattle.world.proofs.Words.{AreWorkOf, closed_group, closed_list, Closes, ClosesGroup, ClosesList, ClosesOne, Commits, CommittingRefines, Contents, Does, ended_by_parts, EntryNo, Expects, Freed, FreeingRefines, Frees, Holder, IsAheadOf, IsChain, le-ltb, Leads, Leads-accepted, Leads-group, Leads-list, listed, lt-ltb, MachineWork, may_happen, MayClose, Memory, Pair, PairRefines, PartsRefine, past_of, position_of, Refusal, seats_of, SeatsFollow, SequencerRefines, Sequencing, spans_of, Steps, TakesBack, Waiting, waits-along, Work, World}
 use Rattle.model.specs.declared.work.Work.TheVariants as work
-use Rattle.redis_core.specs.Sequencing.{ended_by_parts}
 use Rattle.machine.specs.declared.event.Event.TheVariants as events
-use Rattle.machine.specs.Event.{Closes, closed_group, closed_list, listed}
-use Rattle.primary.specs.Closing.{ClosesGroup, ClosesList, MayClose}
-use Rattle.world.specs.Committing.{CommittingRefines, Leads}
-use Rattle.world.specs.Recalling.{past_of}
-use Rattle.world.specs.Pair.{FreeingRefines, Pair, PartsRefine, PairRefines, Steps, Does}
 use Rattle.world.proofs.LivesLemmas.{nodes-refine, own-runs}
-use Rattle.primary.proofs.LeadsLemmas.{Leads-group, Leads-list}
 use Rattle.node_steps.proofs.ClosingLemmas.{AreWorkOf-push, IsGroupOf-handed, closes-group, closes-list, follow-handed, follow-listed, grouped, may-close, may-not-close, sequencer-handed, sequencer-listed}
 use Rattle.primary.proofs.KeptLemmas.{remembers-group, remembers-list}
-use Rattle.node_steps.proofs.RecallLemmas.{waits-along}
 use Rattle.world.proofs.RecallLemmas.{remembered-from, remembered-on}
 use Rattle.world.proofs.PairLemmas.{cut-same, goes-steps, none-added, stays-does, tells, cut-only, steps-only}
-use Rattle.world.proofs.Words.{le-ltb, lt-ltb}
 use Rattle.kv_types.specs.declared.place.Extent.{Extent}
 use Rattle.machine.specs.Event as machine
-use Rattle.primary.proofs.FreedQueue.{Leads-accepted}
 
 -- what waits for the committer, and the sequencer
 abbrev pub with_work : Waiting Work → Sequencing → Pair → Pair

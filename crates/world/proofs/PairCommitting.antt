@@ -1,14 +1,8 @@
 -- What the events of the committer do to the pair, of what they do to its parts.
 use Rattle.std.proofs.Common.{rules, ◌≡◌, Bool, List, ◌∷◌, ◌++◌, Ok, refl, sym, subst, []}
-use Rattle.world.specs.Words.{AreGroupsOf, Commits, committed_first, Exhausted, Fault, FreeList, Frees, Goes, Group, handed, Holder, MachineCommitter, MachineLink, MachineWork, may_happen, Memory, raised_local, ready_again, Refusal, SequencerRefines, Sound, Waiting, with_committer, with_link, Work, World}
+use Rattle.world.proofs.Words.{AreGroupsOf, Breaks, Commits, committed_first, Committing, CommittingRefines, Does, EndsBy, EngineStands, Exhausted, Fault, FreeList, Frees, Goes, Group, handed, handed_to, Holder, Leads, LinkRefines, MachineCommitter, MachineLink, MachineWork, may_happen, Memory, Pair, PartsRefine, past_of, raised_local, ready_again, Refusal, RemembersFor, Resting, RestsAtLimit, SequencerRefines, Sound, Stretch, Waiting, with_committer, with_link, Work, World}
 use Rattle.machine.specs.declared.event.Event.TheVariants as events
-use Rattle.machine.specs.Event.{handed_to}
 use Rattle.world.proofs.LivesLemmas.{nodes-refine, own-runs}
-use Rattle.world.specs.Cause.{Stretch, Breaks, RestsAtLimit, EndsBy, Resting}
-use Rattle.world.specs.Committing.{Committing, EngineStands, Leads, CommittingRefines}
-use Rattle.world.specs.Link.{LinkRefines}
-use Rattle.world.specs.Recalling.{RemembersFor, past_of}
-use Rattle.world.specs.Pair.{Pair, PartsRefine, Does}
 use Rattle.world.proofs.PairLink.{link-alone}
 use Rattle.world.proofs.PairLemmas.{goes-map, goes-steps, steps-only}
 

@@ -1,116 +1,106 @@
--- What a crash inside a call of the primary does to the pair.
-use Rattle.std.proofs.Common.{rules, ◌≡◌, ℕ, ◌<◌, ◌≤◌, true, false, ◌&&◌, ◌||◌, List, ◌++◌, map, Ok, Vec, Global, inl, inr, refl, sym, ap, subst, ◌∙◌, arith, true≢false}
-use Rattle.world.specs.Words.{AddsOne, Allowed, At, Call, Connection, crashed, Cut, cut_at, HasSeat, Holder, image_of, is_between, is_crashed, is_enabled, IsSettled, IsUndamaged, LeavesOnly, left, left_by, MAX_LINES, may_cut, MIN_LINES, Node, reach, RecallsEach, Record, seats_of, Sound, State, StaysReadable, Step, torn, Word, World}
-use Rattle.world.proofs.Words.{lawful_undamaged, LeavesOnly-weaken, position_of-cut_at}
-use Rattle.pmem.specs.Device.{IsOlder, Older, Only}
+-- What a crash of the primary does to the pair, between two calls or inside one.
+use Rattle.std.proofs.Common.{ap, arith, false, Global, inl, inr, List, map, Ok, refl, rules, subst, sym, true, true≢false, Vec, ℕ, ◌++◌, ◌<◌, ◌||◌, ◌∙◌, ◌≡◌, ◌≤◌}
+use Rattle.world.proofs.Words.{AreLives, At, BreaksPrimary, ClientsRefine, crashed, Cut, cut_at, DownRefine, EitherRefines, Falls, has_crashed, has_stopped, HasWorld, Holder, image_of, is_between, is_crashed, IsDown, IsOlder, IsSettled, IsStep, IsUndamaged, lawful_undamaged, LeavesCut, LeavesOf, LeavesOnly, LeavesOnly-weaken, left, left_by, LeftBy, Lives, may_cut, NodesRefine, Older, Only, OpensNear, Pair, past_of, position_of-cut_at, reach, RecallsEach, RecallsFor, runs, Serving, Sound, State, StaysReadable, Step, Steps, torn, Word, World}
 use Rattle.pmem.specs.Crash as crash
 use Rattle.machine.specs.declared.event.Cut.TheVariants as cut
 use Rattle.machine.specs.declared.event.Event.TheVariants as events
 use Rattle.machine.specs.declared.event.Node.TheVariants as node
-use Rattle.world.specs.Committing.{IsDown}
-use Rattle.follower.specs.Condition.{has_crashed}
-use Rattle.world.specs.Effect.{LeavesCut, LeavesOf}
-use Rattle.world.specs.Pair.{AreLives, DownRefine, EitherRefines, HasWorld, NodesRefine, Pair, Lives, Clients, ClientsRefine, Serving, Steps}
-use Rattle.world.specs.Recalling.{RecallsFor, past_of}
-use Rattle.world.specs.Step.{IsStep}
-use Rattle.world.specs.Stopping.{BreaksPrimary}
-use Rattle.world.proofs.AroundLemmas.{around-stands, around-cut}
+use Rattle.world.proofs.AroundLemmas.{around-cut, around-stands}
 use Rattle.world.proofs.CutLemmas.{IsDown-cut}
 use Rattle.world.proofs.DeviceLemmas.{cut-or-still, on-cut}
-use Rattle.follower.proofs.KeptLemmas.{CrashedIn, IsDown-kept, crash-leaves, leaves-cut, left-is, readable-keeps}
-use Rattle.world.specs.Remaining.{LeftBy, OpensNear}
-use Rattle.world.proofs.RecallLemmas.{recalled-cut}
-use Rattle.world.proofs.LeftLemmas.{left-there}
+use Rattle.follower.proofs.KeptLemmas.{crash-leaves, CrashedIn, IsDown-kept, leaves-cut, left-is, readable-keeps}
+use Rattle.world.proofs.LeftLemmas.{left-there, primary-left, primary-lines}
 use Rattle.world.proofs.LivesLemmas.{crashed-as}
 use Rattle.follower.proofs.OpenedLemmas.{StaysSo}
-use Rattle.world.proofs.PairCrash.{with_crashed_primary}
+use Rattle.world.proofs.PairCrash.{crash-enabled, crash-idle, crash-may, HasCrashed, with_crashed_primary}
 use Rattle.world.proofs.PairLemmas.{does-step, moved-primary, reach-below, steps-to}
-use Rattle.world.proofs.PairLives.{stays-acts}
 use Rattle.world.proofs.PairReopen.{fallen-parts}
+use Rattle.world.proofs.RecallLemmas.{recalled-cut}
 use Rattle.world.proofs.RemainLemmas.{left-opens}
-use Rattle.world.proofs.StepLemmas.{is-step, stays-is}
-
--- ---- a node that is in no such call
-
--- a crash inside a call is enabled where the node is in it
-pub cut-enabled : {first second : Holder} {lives : Lives} {w : World} (n : Node) (call : Cut) (k : ℕ) (picks : Vec ℕ Global) → is_between call ≡ false → AreLives first second lives w
-    → is_enabled w (events.Crash n call k picks) ≡ may_cut w n call
-cut-enabled {first} {second} {lives} {w} n call k picks inside are =
-    ap (λ (a : Allowed). a.restarts && ((is_between call || a.cuts) && may_cut w n call)) are.allowed_are ∙ ap (λ b. (b || true) && may_cut w n call) inside
-
-pub cut-stays : (old : Pair) (n : Node) (call : Cut) (k : ℕ) (picks : Vec ℕ Global) → is_between call ≡ false → ((first second : Holder) (w : World) → NodesRefine first second old w → may_cut w n call ≡ false)
-    → IsStep old (events.Crash n call k picks) (Ok false) old
-cut-stays old n call k picks inside never =
-    stays-is (stays-acts old (events.Crash n call k picks) (λ first second w stands. cut-enabled n call k picks inside stands.lives ∙ never first second w stands))
-
--- the node has no such call
-pub no-call : (old : Pair) (n : Node) (call : Cut) (k : ℕ) (picks : Vec ℕ Global) → is_between call ≡ false → ((w : World) → may_cut w n call ≡ false) → IsStep old (events.Crash n call k picks) (Ok false) old
-no-call old n call k picks inside never = cut-stays old n call k picks inside (λ first second w stands. never w)
-
--- it is none
-pub none-between : (call : Cut) → is_between call ≡ false → call ≡ cut.Between → ⊥
-none-between call inside is = true≢false (ap is_between (sym is) ∙ inside)
+use Rattle.world.proofs.StepLemmas.{is-step}
 
 -- ---- the primary
 
--- The clients' connections ended, and the list keeps the calls up to where the image stands.
-abbrev pub EndsThere : State → Clients → Clients → Type 0
-EndsThere device old new =
-    (r : Record) → MIN_LINES ≤ device.lines → device.lines ≤ MAX_LINES → IsUndamaged device.lines r (image_of device.words) → (machines : List Connection) (list : List Call) → ClientsRefine old machines list
-    → ClientsRefine new (map left machines) (cut_at list r.position)
+-- It might come in this world, and left one of what the call may leave there.
+pub record DropsIn (first : Holder) (w : World) (call : Cut) (old last : State) : Type 0 where
+  pub may : may_cut w node.Primary call ≡ true
+  pub lines_are : first.lines ≡ last.lines
+  pub held : LeftBy first w call (image_of last.words)
+  pub leaves : LeavesOnly old last (LeftBy first w call)
 
--- What is left of a primary that crashed in this call, or had stopped: its image tells up to where the list keeps the calls.
-module _ (old : Pair) (call : Cut) (k : ℕ) (picks : Vec ℕ Global) (clients : Clients) (serving : Serving)
-    (settled : IsSettled serving.device.words) (ends : EndsThere serving.device old.clients clients) (unseated : (c seat : ℕ) → ¬ HasSeat (seats_of clients.sessions.connections.items) c seat) where
-  abbrev fallen : Pair
-  fallen = with_crashed_primary clients serving old
+-- the primary's device crashed in this call, of all worlds that the pair stood for
+pub record HasDropped (old : Pair) (call : Cut) (k : ℕ) (picks : Vec ℕ Global) (last : State) : Type 0 where
+  pub settled : IsSettled last.words
+  pub left : LeavesOf call k picks.items old.primary.device last
+  pub drops : (first second : Holder) (w : World) → NodesRefine first second old w → DropsIn first w call old.primary.device last
 
-  pub falls : (first second : Holder) (w : World) → NodesRefine first second old w → is_enabled w (events.Crash node.Primary call k picks) ≡ true → first.lines ≡ serving.device.lines
-      → LeftBy first w call (image_of serving.device.words) → LeavesOnly old.primary.device serving.device (LeftBy first w call) → LeavesOf call k picks.items old.primary.device serving.device
-      → Steps first second w (events.Crash node.Primary call k picks) true old fallen
-  falls first second w stands enabled lines_are left-it leaves left-of =
-      let event = events.Crash node.Primary call k picks in
-      let image = image_of serving.device.words in
-      let sound = stands.sound in
-      let around = around-stands stands.parts in
-      let calls = w.primary.calls in
-      let p = left-it.position in
-      let w' = crashed node.Primary (At p) w in
-      let step : Step w event true w' = does-step enabled (record { remain = At p; one = left-it.one; now = refl }) in
-      let sized : left-it.contents.lines ≡ serving.device.lines = left-it.contents_at.lines_are ∙ lines_are in
-      let down : IsDown first calls p serving.device =
-      record { contents = left-it.contents; contents_at = left-it.contents_at; lawful = left-it.lawful; keeps = left-it.keeps; settled = settled; sized = sized } in
-      let undamaged : IsUndamaged serving.device.lines left-it.contents.current image =
-      subst (λ n. IsUndamaged n left-it.contents.current image) sized (lawful_undamaged left-it.contents image left-it.lawful left-it.keeps) in
-      let ended : ClientsRefine clients (map left w.primary.connections) (cut_at calls left-it.contents.current.position) =
-      ends left-it.contents.current (omega (arith, sized, left-it.lawful.many)) (omega (arith, sized, left-it.lawful.few)) undamaged w.primary.connections calls around.sessions in
-      let behind : reach w ≤ p = omega (arith, reach-below w, left-it.rises) in
-      let parts : DownRefine first second fallen w' =
-      record {
-        around = around-cut w around sound p behind clients (subst (λ n. ClientsRefine clients (map left w.primary.connections) (cut_at calls n)) left-it.contents_at.at ended);
-        unseated = unseated;
-        committer = refl;
-        link = refl;
-        ends = omega (arith, position_of-cut_at calls p, left-it.within);
-        newest = refl;
-        none_told = refl;
-        image = IsDown-cut first calls p p serving.device (omega arith) down;
-        opened = refl;
-        recalls = recalled-cut w.standby.position p calls left-it.contents left-it.recalls;
-      } in
-      let refines : EitherRefines first second fallen w' = inr (inl (refl, parts)) in
-      let lives : AreLives first second fallen.lives w' = search (rules, stands.lives) in
-      steps-to w' stands step lives refines
-      (moved-primary first second old fallen w w' stands.parts refl
-      (on-cut first w event w' node.Primary old.primary.device serving.device (cut-or-still call k picks.items old.primary.device serving.device left-of)
-      (LeavesOnly-weaken (OpensNear first calls w.primary.committer.position (torn w.primary.life ++ left_by w node.Primary call)) (left-opens first w call) leaves)))
+-- what is left of it: its image tells up to where the list keeps the calls
+pub primary-falls : (old : Pair) (serving : Serving) (new : Pair) (call : Cut) (k : ℕ) (picks : Vec ℕ Global) → Falls (record old { primary = serving }) new → HasDropped old call k picks serving.device
+    → IsStep old (events.Crash node.Primary call k picks) (Ok true) new
+primary-falls old serving new call k picks fell dropped =
+    subst (λ (pair : Pair). IsStep old (events.Crash node.Primary call k picks) (Ok true) pair) (sym fell.rest)
+    (is-step old (events.Crash node.Primary call k picks) (Ok true) fallen (record { steps = steps; cut = tt; calls = fell.calls })
+    (record { primary = λ idle. absurd (true≢false idle); standby = λ idle. refl }) refl refl (inl dropped.left))
+  where
+    fallen : Pair
+    fallen = with_crashed_primary new.clients serving old
 
-  -- so of all worlds that the pair stood for
-  pub primary-falls : ((first second : Holder) (w : World) → NodesRefine first second old w → Steps first second w (events.Crash node.Primary call k picks) true old fallen)
-      → LeavesOf call k picks.items old.primary.device serving.device → AddsOne old.clients.transcript.calls clients.transcript.calls → IsStep old (events.Crash node.Primary call k picks) (Ok true) fallen
-  primary-falls steps left-of added =
-      is-step old (events.Crash node.Primary call k picks) (Ok true) fallen (record { steps = steps; cut = tt; calls = added })
-      (record { primary = λ idle. absurd (true≢false idle); standby = λ idle. refl }) refl refl (inl left-of)
+    steps : (first second : Holder) (w : World) → NodesRefine first second old w → Steps first second w (events.Crash node.Primary call k picks) true old fallen
+    steps first second w stands =
+        let event = events.Crash node.Primary call k picks in
+        let image = image_of serving.device.words in
+        let sound = stands.sound in
+        let around = around-stands stands.parts in
+        let calls = w.primary.calls in
+        let it = dropped.drops first second w stands in
+        let left-it = it.held in
+        let p = left-it.position in
+        let w' = crashed node.Primary (At p) w in
+        let step : Step w event true w' = does-step (crash-enabled node.Primary call k picks stands.lives ∙ it.may) (record { remain = At p; one = left-it.one; now = refl }) in
+        let sized : left-it.contents.lines ≡ serving.device.lines = left-it.contents_at.lines_are ∙ it.lines_are in
+        let down : IsDown first calls p serving.device =
+        record { contents = left-it.contents; contents_at = left-it.contents_at; lawful = left-it.lawful; keeps = left-it.keeps; settled = dropped.settled; sized = sized } in
+        let undamaged : IsUndamaged serving.device.lines left-it.contents.current image =
+        subst (λ n. IsUndamaged n left-it.contents.current image) sized (lawful_undamaged left-it.contents image left-it.lawful left-it.keeps) in
+        let ended : ClientsRefine new.clients (map left w.primary.connections) (cut_at calls left-it.contents.current.position) =
+        fell.ends left-it.contents.current (omega (arith, sized, left-it.lawful.many)) (omega (arith, sized, left-it.lawful.few)) undamaged w.primary.connections calls around.sessions in
+        let behind : reach w ≤ p = omega (arith, reach-below w, left-it.rises) in
+        let parts : DownRefine first second fallen w' =
+        record {
+          around = around-cut w around sound p behind new.clients (subst (λ n. ClientsRefine new.clients (map left w.primary.connections) (cut_at calls n)) left-it.contents_at.at ended);
+          unseated = fell.unseated;
+          committer = refl;
+          link = refl;
+          ends = omega (arith, position_of-cut_at calls p, left-it.within);
+          newest = refl;
+          none_told = refl;
+          image = IsDown-cut first calls p p serving.device (omega arith) down;
+          opened = refl;
+          recalls = recalled-cut w.standby.position p calls left-it.contents left-it.recalls;
+        } in
+        let refines : EitherRefines first second fallen w' = inr (inl (refl, parts)) in
+        let lives : AreLives first second fallen.lives w' = search (rules, stands.lives) in
+        steps-to w' stands step lives refines
+        (moved-primary first second old fallen w w' stands.parts refl
+        (on-cut first w event w' node.Primary old.primary.device serving.device (cut-or-still call k picks.items old.primary.device serving.device dropped.left)
+        (LeavesOnly-weaken (OpensNear first calls w.primary.committer.position (torn w.primary.life ++ left_by w node.Primary call)) (left-opens first w call) it.leaves)))
+
+-- ---- between two calls
+
+pub between-drops : (old : Pair) (k : ℕ) (picks : Vec ℕ Global) (last : State) → (runs old.lives.primary || has_stopped old.lives.primary) ≡ true → old.primary.contents.lines ≡ old.primary.device.lines
+    → HasCrashed picks.items old.primary.device last → HasDropped old cut.Between k picks last
+between-drops old k picks last goes sized crashed = record {
+  settled = crashed.picked.settled;
+  left = (crashed.picked, crashed.failures);
+  drops = λ first second w stands. record {
+    may = (crash-may stands.lives).0 ∙ goes;
+    lines_are = sym (primary-lines first second old w sized stands) ∙ sym crashed.lines_are;
+    held = primary-left first second old w stands (image_of last.words) crashed.picked.image;
+    leaves = LeavesOnly-weaken (LeftBy first w cut.Between) (primary-left first second old w stands) crashed.moments;
+  };
+}
+
+-- ---- inside a call
 
 -- In this world the call has something to do, and a crash at any moment of it leaves what one that cuts it may leave.
 pub record CutIn (first : Holder) (w : World) (call : Cut) (lines : ℕ) (kept last : State) : Type 0 where
@@ -118,30 +108,19 @@ pub record CutIn (first : Holder) (w : World) (call : Cut) (lines : ℕ) (kept l
   pub lines_are : first.lines ≡ lines
   pub leaves : LeavesOnly kept last (LeftBy first w call)
 
--- a crash inside a call
 pub leaves-of : {k : ℕ} {picks : List ℕ} {old new : State} (call : Cut) → is_between call ≡ false → LeavesCut k picks old new → LeavesOf call k picks old new
 leaves-of cut.Between inside left-cut = absurd (true≢false inside)
 leaves-of call inside left-cut = left-cut
 
-module _ (old : Pair) (call : Cut) (k : ℕ) (picks : Vec ℕ Global) (kept last : State) (clients : Clients) (serving : Serving)
-    (inside : is_between call ≡ false) (off : CrashedIn k picks.items old.primary.device kept last serving.device) (lines : last.lines ≡ kept.lines)
-    (cut-in : (first second : Holder) (w : World) → NodesRefine first second old w → CutIn first w call old.primary.device.lines kept last)
-    (ends : EndsThere serving.device old.clients clients) (unseated : (c seat : ℕ) → ¬ HasSeat (seats_of clients.sessions.connections.items) c seat) where
-  abbrev new : Pair
-  new = with_crashed_primary clients serving old
-
-  left-of : (first second : Holder) (w : World) → NodesRefine first second old w → LeavesOf call k picks.items old.primary.device serving.device
-  left-of first second w stands = leaves-of call inside (leaves-cut off (cut-in first second w stands).leaves)
-
-  shortens : (first second : Holder) (w : World) → NodesRefine first second old w → Steps first second w (events.Crash node.Primary call k picks) true old new
-  shortens first second w stands =
+pub cut-drops : (old : Pair) (call : Cut) (k : ℕ) (picks : Vec ℕ Global) (kept mid last : State) → is_between call ≡ false → CrashedIn k picks.items old.primary.device kept mid last → mid.lines ≡ kept.lines
+    → ((first second : Holder) (w : World) → NodesRefine first second old w → CutIn first w call old.primary.device.lines kept mid) → HasWorld old → HasDropped old call k picks last
+cut-drops old call k picks kept mid last inside off lines cut-in has = record {
+  settled = off.settled;
+  left = leaves-of call inside (leaves-cut off (cut-in has.first has.second has.world has.stands).leaves);
+  drops = λ first second w stands.
       let it = cut-in first second w stands in
-      falls old call k picks clients serving off.settled ends unseated first second w stands
-      (cut-enabled node.Primary call k picks inside stands.lives ∙ it.may) (it.lines_are ∙ sym (off.lines_are ∙ lines ∙ off.keeps.lines)) (left-is off it.leaves) (crash-leaves off it.leaves)
-      (left-of first second w stands)
-
-  pub primary-cut : HasWorld old → AddsOne old.clients.transcript.calls clients.transcript.calls → IsStep old (events.Crash node.Primary call k picks) (Ok true) new
-  primary-cut has added = primary-falls old call k picks clients serving off.settled ends unseated shortens (left-of has.first has.second has.world has.stands) added
+      record { may = it.may; lines_are = it.lines_are ∙ sym (off.lines_are ∙ lines ∙ off.keeps.lines); held = left-is off it.leaves; leaves = crash-leaves off it.leaves };
+}
 
 -- ---- while it is opened
 
@@ -167,7 +146,7 @@ opens-cut : {first second : Holder} {lives : Lives} {w : World} → AreLives fir
 opens-cut {first} {second} {lives} {w} are = ap is_crashed are.primary ∙ crashed-as lives.primary (torn w.primary.life)
 
 pub opening-stays : (old : Pair) (k : ℕ) (picks : Vec ℕ Global) → has_crashed old.lives.primary ≡ false → IsStep old (events.Crash node.Primary cut.Reopen k picks) (Ok false) old
-opening-stays old k picks whole = cut-stays old node.Primary cut.Reopen k picks refl (λ first second w stands. opens-cut stands.lives ∙ whole)
+opening-stays old k picks whole = crash-idle old node.Primary cut.Reopen k picks (λ first second w stands. opens-cut stands.lives ∙ whole)
 
 settled-only : (words : ℕ → Word) → IsSettled words → (word : ℕ) → Only (words word) (image_of words word)
 settled-only words settled word = record {

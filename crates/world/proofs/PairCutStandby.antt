@@ -1,34 +1,21 @@
 -- What a crash inside a call of the standby's leaves of it: as it takes a frame, is opened, or is promoted.
-use Rattle.std.proofs.Common.{◌≡◌, ℕ, ◌<◌, true, false, ◌&&◌, cond, nat_eq, List, [], ◌∷◌, ◌++◌, length, Ok, Vec, Global, refl, sym, ap, ap₂, subst, ◌∙◌, arith, OnOk, OnErr, Result, Err}
-use Rattle.std.proofs.lemmas.Bool.{and_right}
-use Rattle.world.specs.Words.{AsPrimary, At, Call, Changes, Contents, Cut, End, ExhaustsPromotion, Follower, Frame, Holder, image_of, is_between, is_crashed, is_follower, is_nonempty, is_retired, is_running, IsBeforeOrPromoted, LeavesOnly, left_by, left_by_first, left_by_told, may_cut, may_remain, Part, promoted_contents, Refusal, Remains, Role, Same, Sent, State, Told, torn, World}
-use Rattle.world.proofs.Words.{LeavesOnly-weaken}
+use Rattle.std.proofs.Common.{[], ap, ap₂, arith, Err, false, Global, length, List, Ok, OnErr, OnOk, refl, Result, subst, sym, true, Vec, ℕ, ◌&&◌, ◌++◌, ◌<◌, ◌∙◌, ◌∷◌, ◌≡◌}
+use Rattle.world.proofs.Words.{and_right, AreFramesRead, AsPrimary, At, Call, Contents, Cut, ExhaustsPromotion, Frame, has_crashed, has_ended, HasStandby, HasWorld, Holder, image_of, is_between, is_crashed, is_follower, is_nonempty, is_retired, is_running, is_still, IsBeforeOrPromoted, IsStep, KeepsOne, LeavesOnly, LeavesOnly-weaken, left_by, may_cut, next_standby, NodesRefine, OpensNear, Pair, promoted_contents, Refusal, Remains, runs, Same, Sent, State, torn, World}
 use Rattle.machine.specs.declared.event.Event.TheVariants as events
 use Rattle.machine.specs.declared.event.Cut.TheVariants as cuts
 use Rattle.machine.specs.declared.event.Node.TheVariants as node
-use Rattle.machine.specs.Event.{Standby}
-use Rattle.follower.specs.Condition.{has_crashed, is_still, runs, has_ended}
-use Rattle.follower.specs.Following.{next_standby}
-use Rattle.world.specs.Link.{AreFramesRead}
-use Rattle.world.specs.Pair.{HasStandby, HasWorld, NodesRefine, Pair}
-use Rattle.world.specs.Remaining.{KeepsOne, OpensNear}
-use Rattle.world.specs.Step.{IsStep}
-use Rattle.follower.specs.Standby.{Arrived, Node}
 use Rattle.world.proofs.AroundLemmas.{around-stands}
 use Rattle.follower.proofs.ArrivalLemmas.{some-wait}
-use Rattle.follower.proofs.KeptLemmas.{CrashedIn, IsDown-kept, crash-leaves, keeps-here, keeps-left, leaves-cut, left-is, restart-keeps, EngineStands-kept, keeps-either}
-use Rattle.world.proofs.LivesLemmas.{crashed-as, crashed-not-over, crashed-whole, not-over, running-as, runs-whole, whole-torn, retired-as}
+use Rattle.follower.proofs.KeptLemmas.{crash-leaves, CrashedIn, EngineStands-kept, IsDown-kept, keeps-either, keeps-here, keeps-left, leaves-cut, left-is, restart-keeps}
+use Rattle.world.proofs.LivesLemmas.{crashed-as, crashed-not-over, crashed-whole, not-over, retired-as, running-as, runs-whole, whole-torn}
 use Rattle.follower.proofs.OpenedLemmas.{StaysSo}
-use Rattle.world.proofs.PairCrash.{with_crashed_standby}
+use Rattle.world.proofs.PairCrash.{crash-idle}
 use Rattle.world.proofs.PairCut.{leaves-of}
-use Rattle.world.proofs.PairFallen.{HasFallen, are_behind, fall-enabled, one-behind, stays-behind, goes-by-image}
-use Rattle.world.proofs.PairLives.{stays-acts}
-use Rattle.world.proofs.PairStandby.{follower}
-use Rattle.world.proofs.RemainLemmas.{keeps-near}
-use Rattle.world.proofs.StepLemmas.{stays-is}
-use Rattle.world.specs.Cutting.{GoesByImage}
+use Rattle.world.proofs.PairFallen.{HasFallen}
 use Rattle.world.proofs.PairPromote.{names-epoch}
+use Rattle.world.proofs.PairStandby.{follower}
 use Rattle.world.proofs.PromotionLemmas.{promotion-keeps}
+use Rattle.world.proofs.RemainLemmas.{keeps-near}
 
 -- ---- which crash may come
 
@@ -40,14 +27,9 @@ takes-frame {first} {second} {pair} {w} stands = ap (λ b. b && is_nonempty w.st
 is-opened : {first second : Holder} {pair : Pair} {w : World} → NodesRefine first second pair w → may_cut w node.Standby cuts.Reopen ≡ has_crashed pair.lives.standby
 is-opened {first} {second} {pair} {w} stands = ap is_crashed stands.lives.standby ∙ crashed-as pair.lives.standby (torn w.standby.life)
 
--- a call in which it is not
-pub call-idle : (old : Pair) (call : Cut) (k : ℕ) (picks : Vec ℕ Global) → ((first second : Holder) (w : World) → NodesRefine first second old w → may_cut w node.Standby call ≡ false)
-    → IsStep old (events.Crash node.Standby call k picks) (Ok false) old
-call-idle old call k picks never = stays-is (stays-acts old (events.Crash node.Standby call k picks) (λ first second w stands. fall-enabled call k picks stands.lives ∙ never first second w stands))
-
 -- a standby that does not run takes no frame
 pub frame-idle : (old : Pair) (k : ℕ) (picks : Vec ℕ Global) → runs old.lives.standby ≡ false → IsStep old (events.Crash node.Standby cuts.Apply k picks) (Ok false) old
-frame-idle old k picks down = call-idle old cuts.Apply k picks (λ first second w stands. takes-frame stands ∙ ap (λ b. b && is_nonempty w.standby.waiting) down)
+frame-idle old k picks down = crash-idle old node.Standby cuts.Apply k picks (λ first second w stands. takes-frame stands ∙ ap (λ b. b && is_nonempty w.standby.waiting) down)
 
 none_wait : {first second : Holder} {pair : Pair} {w : World} → length pair.wire.arrivals.delivered.items ≡ 0 → NodesRefine first second pair w → is_nonempty w.standby.waiting ≡ false
 none_wait {first} {second} {pair} {w} none stands = none_of pair.wire.link.epoch w.primary.calls pair.wire.arrivals.delivered.items w.standby.waiting none (around-stands stands.parts).arrivals.delivered
@@ -60,11 +42,11 @@ none_wait {first} {second} {pair} {w} none stands = none_of pair.wire.link.epoch
 -- nor does one to which none came
 pub frame-none : (old : Pair) (k : ℕ) (picks : Vec ℕ Global) → length old.wire.arrivals.delivered.items ≡ 0 → IsStep old (events.Crash node.Standby cuts.Apply k picks) (Ok false) old
 frame-none old k picks none =
-    call-idle old cuts.Apply k picks (λ first second w stands. takes-frame stands ∙ and_right (runs old.lives.standby) (is_nonempty w.standby.waiting) (none_wait none stands))
+    crash-idle old node.Standby cuts.Apply k picks (λ first second w stands. takes-frame stands ∙ and_right (runs old.lives.standby) (is_nonempty w.standby.waiting) (none_wait none stands))
 
 -- nor is one opened that is not crashed
 pub opening-idle : (old : Pair) (k : ℕ) (picks : Vec ℕ Global) → has_crashed old.lives.standby ≡ false → IsStep old (events.Crash node.Standby cuts.Reopen k picks) (Ok false) old
-opening-idle old k picks up = call-idle old cuts.Reopen k picks (λ first second w stands. is-opened stands ∙ up)
+opening-idle old k picks up = crash-idle old node.Standby cuts.Reopen k picks (λ first second w stands. is-opened stands ∙ up)
 
 -- ---- the device
 
@@ -99,67 +81,34 @@ cut-falls old call kept mid last k picks inside began whole is goes any = record
 
 -- ---- a frame
 
--- what a frame may leave is a standby's
-first-behind : (standby : Standby) (frames : List Sent) → standby.role ≡ Follower → are_behind (left_by_first standby frames) ≡ true
-first-behind standby [] follows = refl
-first-behind standby (frame ∷ frames) follows =
-    elim (nat_eq frame.epoch standby.epoch) as (λ b. are_behind (cond b (left_by_told standby.role frame.told standby) []) ≡ true) [
-      | true ↦ subst (λ (role : Role). are_behind (left_by_told role frame.told standby) ≡ true) (sym follows) (told-behind frame.told)
-      | false ↦ refl
-    ]
-  where
-    told-behind : (told : Told) → are_behind (left_by_told Follower told standby) ≡ true
-    told-behind (Changes span) = elim (nat_eq span.before standby.position) as (λ b. are_behind (cond b (At span.after ∷ []) []) ≡ true) [ true ↦ refl | false ↦ refl ]
-    told-behind (Part position number) = refl
-    told-behind (End position parts) = refl
-
-pub frame-cuts : (old : Pair) (arrivals : Arrived) (node' : Node) (kept mid : State) (k : ℕ) (picks : Vec ℕ Global) → runs old.lives.standby ≡ true → 0 < length old.wire.arrivals.delivered.items
-    → arrivals.delivered.items ≡ [] → arrivals.acknowledgements ≡ old.wire.arrivals.acknowledgements → CrashedIn k picks.items old.standby.device kept mid node'.device
+pub frame-falls : (old : Pair) (kept mid last : State) (k : ℕ) (picks : Vec ℕ Global) → runs old.lives.standby ≡ true → 0 < length old.wire.arrivals.delivered.items → CrashedIn k picks.items old.standby.device kept mid last
     → old.standby.contents.lines ≡ old.standby.device.lines → mid.lines ≡ old.standby.device.lines
     → ((first second : Holder) (w : World) → NodesRefine first second old w → LeavesOnly kept mid (KeepsOne second w.primary.calls w.standby.position (At (next_standby w) ∷ [])))
-    → HasWorld old → IsStep old (events.Crash node.Standby cuts.Apply k picks) (Ok true) (with_crashed_standby arrivals node' old)
-frame-cuts old arrivals node' kept mid k picks follows some lost told is sized lines only any =
-    stays-behind old arrivals node' cuts.Apply k picks fallen lost told
-    (λ first second w stands.
-    let held = (fallen.falls first second w stands).held in
-    one-behind (may_remain w node.Standby cuts.Apply) held.one
-    (ap (λ (remains : List Remains). are_behind (remains ++ left_by w node.Standby cuts.Apply)) (whole-torn old.lives.standby stands.lives.standby (runs-whole old.lives.standby follows))
-    ∙ first-behind w.standby w.standby.waiting stands.lives.follows) held.is_one)
-  where
-    fallen : HasFallen old cuts.Apply k picks node'.device
-    fallen =
-        cut-falls old cuts.Apply kept mid node'.device k picks refl (not-over old.lives.standby follows) (runs-whole old.lives.standby follows) is
-        (λ first second w stands. record {
-          may = takes-frame stands ∙ ap₂ (λ a b. a && b) follows (some-wait old.wire.link.epoch w old.wire.arrivals some (around-stands stands.parts).arrivals);
-          lines_are = sym (follower follows stands.parts).engine.contents_at.lines_are ∙ sized ∙ sym lines ∙ sym is.lines_are;
-          keeps = LeavesOnly-weaken (KeepsOne second w.primary.calls w.standby.position (left_by w node.Standby cuts.Apply))
-              (keeps-left second w.primary.calls w.standby.position (left_by w node.Standby cuts.Apply)) (only first second w stands);
-        }) any
+    → HasWorld old → HasFallen old cuts.Apply k picks last
+frame-falls old kept mid last k picks follows some is sized lines only =
+    cut-falls old cuts.Apply kept mid last k picks refl (not-over old.lives.standby follows) (runs-whole old.lives.standby follows) is
+    (λ first second w stands. record {
+      may = takes-frame stands ∙ ap₂ (λ a b. a && b) follows (some-wait old.wire.link.epoch w old.wire.arrivals some (around-stands stands.parts).arrivals);
+      lines_are = sym (follower follows stands.parts).engine.contents_at.lines_are ∙ sized ∙ sym lines ∙ sym is.lines_are;
+      keeps = LeavesOnly-weaken (KeepsOne second w.primary.calls w.standby.position (left_by w node.Standby cuts.Apply))
+          (keeps-left second w.primary.calls w.standby.position (left_by w node.Standby cuts.Apply)) (only first second w stands);
+    })
 
 -- ---- its opening
 
-pub opening-cuts : (old : Pair) (arrivals : Arrived) (node' : Node) (kept mid : State) (k : ℕ) (picks : Vec ℕ Global) → has_crashed old.lives.standby ≡ true
-    → arrivals.delivered.items ≡ [] → arrivals.acknowledgements ≡ old.wire.arrivals.acknowledgements → CrashedIn k picks.items old.standby.device kept mid node'.device
-    → mid.lines ≡ kept.lines → StaysSo kept mid → HasWorld old → IsStep old (events.Crash node.Standby cuts.Reopen k picks) (Ok true) (with_crashed_standby arrivals node' old)
-opening-cuts old arrivals node' kept mid k picks down lost told is lines stays any =
-    stays-behind old arrivals node' cuts.Reopen k picks fallen lost told
+pub opening-falls : (old : Pair) (kept mid last : State) (k : ℕ) (picks : Vec ℕ Global) → has_crashed old.lives.standby ≡ true → CrashedIn k picks.items old.standby.device kept mid last
+    → mid.lines ≡ kept.lines → StaysSo kept mid → HasWorld old → HasFallen old cuts.Reopen k picks last
+opening-falls old kept mid last k picks down is lines stays =
+    cut-falls old cuts.Reopen kept mid last k picks refl (crashed-not-over old.lives.standby down) (crashed-whole old.lives.standby down) is
     (λ first second w stands.
-    let held = (fallen.falls first second w stands).held in
-    one-behind (may_remain w node.Standby cuts.Reopen) held.one
-    (ap (λ (remains : List Remains). are_behind (remains ++ [])) (whole-torn old.lives.standby stands.lives.standby (crashed-whole old.lives.standby down))) held.is_one)
-  where
-    fallen : HasFallen old cuts.Reopen k picks node'.device
-    fallen =
-        cut-falls old cuts.Reopen kept mid node'.device k picks refl (crashed-not-over old.lives.standby down) (crashed-whole old.lives.standby down) is
-        (λ first second w stands.
-        let calls = w.primary.calls in
-        let p = w.standby.position in
-        let was = (around-stands stands.parts).standby.down down in
-        record {
-          may = is-opened stands ∙ down;
-          lines_are = sym was.contents_at.lines_are ∙ was.sized ∙ sym is.keeps.lines ∙ sym lines ∙ sym is.lines_are;
-          keeps = LeavesOnly-weaken (KeepsOne second calls p []) (keeps-here second calls p []) (restart-keeps second calls p kept mid (IsDown-kept second calls p is.keeps was) stays);
-        }) any
+    let calls = w.primary.calls in
+    let p = w.standby.position in
+    let was = (around-stands stands.parts).standby.down down in
+    record {
+      may = is-opened stands ∙ down;
+      lines_are = sym was.contents_at.lines_are ∙ was.sized ∙ sym is.keeps.lines ∙ sym lines ∙ sym is.lines_are;
+      keeps = LeavesOnly-weaken (KeepsOne second calls p []) (keeps-here second calls p []) (restart-keeps second calls p kept mid (IsDown-kept second calls p is.keeps was) stays);
+    })
 
 -- ---- which crash may come
 
@@ -169,11 +118,11 @@ is-promoted {first} {second} {pair} {w} stands =
 
 -- a primary that was not fenced is not succeeded
 pub promotion-unfenced : (old : Pair) (k : ℕ) (picks : Vec ℕ Global) → has_ended old.lives.primary ≡ false → IsStep old (events.Crash node.Standby cuts.Promote k picks) (Ok false) old
-promotion-unfenced old k picks unfenced = call-idle old cuts.Promote k picks (λ first second w stands. is-promoted stands ∙ and_right (runs old.lives.standby) (has_ended old.lives.primary) unfenced)
+promotion-unfenced old k picks unfenced = crash-idle old node.Standby cuts.Promote k picks (λ first second w stands. is-promoted stands ∙ and_right (runs old.lives.standby) (has_ended old.lives.primary) unfenced)
 
 -- nor by a standby that does not run
 pub promotion-idle : (old : Pair) (k : ℕ) (picks : Vec ℕ Global) → runs old.lives.standby ≡ false → IsStep old (events.Crash node.Standby cuts.Promote k picks) (Ok false) old
-promotion-idle old k picks down = call-idle old cuts.Promote k picks (λ first second w stands. is-promoted stands ∙ ap (λ b. b && has_ended old.lives.primary) down)
+promotion-idle old k picks down = crash-idle old node.Standby cuts.Promote k picks (λ first second w stands. is-promoted stands ∙ ap (λ b. b && has_ended old.lives.primary) down)
 
 -- ---- the image
 
@@ -195,22 +144,18 @@ pub record IsPromotionCutShort (old : Pair) (k : ℕ) (picks : Vec ℕ Global) (
   pub moments : token ≡ old.standby.contents.current.epoch → old.standby.is_faulted ≡ false → LeavesOnly kept mid (IsBeforeOrPromoted old.standby.contents)
   pub any : HasWorld old
 
-pub promotion-cuts : (old : Pair) (node' : Node) (new : Pair) (kept mid : State) (k : ℕ) (picks : Vec ℕ Global) → IsPromotionCutShort old k picks kept mid node'.device
-    → GoesByImage (record old { standby = node' }) new → IsStep old (events.Crash node.Standby cuts.Promote k picks) (Ok true) new
-promotion-cuts old node' new kept mid k picks cut goes = goes-by-image old node' cuts.Promote k picks new fallen goes
-  where
-    fallen : HasFallen old cuts.Promote k picks node'.device
-    fallen =
-        cut-falls old cuts.Promote kept mid node'.device k picks refl (not-over old.lives.standby cut.follows) (runs-whole old.lives.standby cut.follows) cut.crashed_in
-        (λ first second w stands.
-        let calls = w.primary.calls in
-        let p = w.standby.position in
-        let names = names-epoch old cut.fenced cut.follows first second w stands cut.token cut.token_is in
-        let stood = (follower cut.follows stands.parts).engine in
-        record {
-          may = is-promoted stands ∙ ap₂ (λ a b. a && b) cut.follows cut.fenced;
-          lines_are = sym stood.contents_at.lines_are ∙ cut.sized ∙ sym cut.lines ∙ sym cut.crashed_in.lines_are;
-          keeps = LeavesOnly-weaken (KeepsOne second calls p (AsPrimary ∷ [])) (keeps-either second calls p)
-              (promotion-keeps second calls p kept mid old.standby.contents old.standby.is_faulted
-              (EngineStands-kept second calls p old.standby.contents old.standby.is_faulted cut.crashed_in.keeps stood) (cut.full names stood.sound) (cut.moments names stood.sound));
-        }) cut.any
+pub promotion-falls : (old : Pair) (kept mid last : State) (k : ℕ) (picks : Vec ℕ Global) → IsPromotionCutShort old k picks kept mid last → HasFallen old cuts.Promote k picks last
+promotion-falls old kept mid last k picks cut =
+    cut-falls old cuts.Promote kept mid last k picks refl (not-over old.lives.standby cut.follows) (runs-whole old.lives.standby cut.follows) cut.crashed_in
+    (λ first second w stands.
+    let calls = w.primary.calls in
+    let p = w.standby.position in
+    let names = names-epoch old cut.fenced cut.follows first second w stands cut.token cut.token_is in
+    let stood = (follower cut.follows stands.parts).engine in
+    record {
+      may = is-promoted stands ∙ ap₂ (λ a b. a && b) cut.follows cut.fenced;
+      lines_are = sym stood.contents_at.lines_are ∙ cut.sized ∙ sym cut.lines ∙ sym cut.crashed_in.lines_are;
+      keeps = LeavesOnly-weaken (KeepsOne second calls p (AsPrimary ∷ [])) (keeps-either second calls p)
+          (promotion-keeps second calls p kept mid old.standby.contents old.standby.is_faulted
+          (EngineStands-kept second calls p old.standby.contents old.standby.is_faulted cut.crashed_in.keeps stood) (cut.full names stood.sound) (cut.moments names stood.sound));
+    }) cut.any

@@ -1,29 +1,20 @@
 -- What a crash inside a step of the primary's committer leaves, and what it does to the pair.
-use Rattle.std.proofs.Common.{rules, ◌≡◌, ◌+◌, ◌-◌, ℕ, Bool, true, false, ◌&&◌, nat_lt, length, Ok, Result, Vec, Global, refl, sym, ap, subst, ◌∙◌, true≢false, ◌⊎◌, ◌<◌, List, Err, inl, inr}
-use Rattle.world.specs.Words.{AddsOne, Committer, Contents, Done, Due, due_of, Fault, Freed, Group, HasSeat, Holder, is_between, is_running, LeavesOnly, Life, may_clear, may_commit, may_cut, may_free, moment, PIPE_ITEMS, Refusal, seats_of, StandsOver, State, torn, Waiting, Work, World}
+use Rattle.std.proofs.Common.{ap, Bool, Err, false, Global, inl, inr, length, List, nat_lt, Ok, refl, Result, rules, subst, sym, true, true≢false, Vec, ℕ, ◌&&◌, ◌+◌, ◌-◌, ◌<◌, ◌∙◌, ◌≡◌, ◌⊎◌}
+use Rattle.world.proofs.Words.{BreaksPrimary, Committer, Committing, Contents, cut_of, Done, Due, due_of, Fault, Freed, Group, HasWorld, Holder, is_between, is_running, IsStep, LeavesOnly, LeftBy, Life, link_has_room, may_clear, may_commit, may_cut, may_free, min-le_left, moment, NodesRefine, Pair, PairRefines, PartsRefine, PIPE_ITEMS, Refusal, runs, StandsOver, State, TakesGroups, torn, Waiting, Work, World}
 use Rattle.pmem.specs.Crash as crash
-use Rattle.std.proofs.Math.Nat.{min-le_left}
-use Rattle.group_commit.specs.Working.{TakesGroups}
 use Rattle.group_commit.specs.declared.due.Due.TheVariants as due
 use Rattle.machine.specs.declared.event.Event.TheVariants as events
 use Rattle.machine.specs.declared.event.Node.TheVariants as node
-use Rattle.world.specs.Committing.{Committing, link_has_room}
-use Rattle.follower.specs.Condition.{runs}
-use Rattle.world.specs.Cutting.{cut_of}
-use Rattle.world.specs.Pair.{HasWorld, NodesRefine, Pair, PairRefines, PartsRefine, Clients, Serving}
-use Rattle.world.specs.Step.{IsStep}
 use Rattle.follower.proofs.KeptLemmas.{CrashedIn, EngineStands-kept}
 use Rattle.world.proofs.LivesLemmas.{running-as, serves-as, serving}
-use Rattle.world.proofs.PairCrash.{with_crashed_primary}
-use Rattle.world.proofs.PairCut.{CutIn, EndsThere, cut-stays, primary-cut}
-use Rattle.world.proofs.PairLemmas.{back-stands}
-use Rattle.world.proofs.OneGroupLemmas.{TakesGroup, takes-one}
-use Rattle.world.proofs.PairTurns.{Took, link_room, pair_of, took-step, commit-left, pair_with}
-use Rattle.world.proofs.QueueLemmas.{clear-disabled, commit-disabled, free-disabled, clear-enabled, commit-enabled, free-enabled}
-use Rattle.world.specs.Remaining.{LeftBy}
-use Rattle.world.specs.Stopping.{BreaksPrimary}
+use Rattle.world.proofs.OneGroupLemmas.{takes-one, TakesGroup}
 use Rattle.world.proofs.PairClearing.{clear-left}
+use Rattle.world.proofs.PairCrash.{crash-idle}
+use Rattle.world.proofs.PairCut.{cut-drops, CutIn}
 use Rattle.world.proofs.PairFreeing.{free-left}
+use Rattle.world.proofs.PairLemmas.{back-stands}
+use Rattle.world.proofs.PairTurns.{commit-left, link_room, pair_of, pair_with, Took, took-step}
+use Rattle.world.proofs.QueueLemmas.{clear-disabled, clear-enabled, commit-disabled, commit-enabled, free-disabled, free-enabled}
 
 module _ {E : Type 0} (device : E → State) (contents : E → Contents) (is_faulted : E → Bool) (pair : Pair)
     (before : Committer E) (works : Waiting Work) (handed : Waiting Group) (after : Committer E) (works' : Waiting Work) (handed' : Waiting Group) where
@@ -203,20 +194,18 @@ module _ {E : Type 0} (device : E → State) (contents : E → Contents) (is_fau
             step result inside (came-so step is taken)
             ∙ sized kept.engine
 
-        pub step-cut : (step : Due) (picks : Vec ℕ Global) (clients' : Clients) (serving' : Serving) → is_between (cut_of step) ≡ false
-            → runs pair.lives.primary ≡ true → due-by before works handed ≡ step → Taken → ((engine : E) → (contents engine).lines ≡ (device engine).lines)
-            → CrashedIn k picks.items (device before.engine) (device kept.engine) (device after.engine) serving'.device → EndsThere serving'.device pair.clients clients'
-            → ((c seat : ℕ) → ¬ HasSeat (seats_of clients'.sessions.connections.items) c seat) → HasWorld old → AddsOne pair.clients.transcript.calls clients'.transcript.calls
-            → IsStep old (events.Crash node.Primary (cut_of step) k picks) (Ok true) (with_crashed_primary clients' serving' old)
-        step-cut step picks clients' serving' inside up is taken sized off ends unseated has added =
-            primary-cut old (cut_of step) k picks (device kept.engine) (device after.engine) clients' serving' inside off
-            (same-device-lines step inside is taken sized) (step-cut-in step inside is (came-so step is taken) (sized before.engine) up) ends unseated has added
+        pub step-drops : (step : Due) (picks : Vec ℕ Global) (last : State) → is_between (cut_of step) ≡ false → runs pair.lives.primary ≡ true → due-by before works handed ≡ step → Taken
+            → ((engine : E) → (contents engine).lines ≡ (device engine).lines) → CrashedIn k picks.items (device before.engine) (device kept.engine) (device after.engine) last → HasWorld old
+            → HasDropped old (cut_of step) k picks last
+        step-drops step picks last inside up is taken sized off =
+            cut-drops old (cut_of step) k picks (device kept.engine) (device after.engine) last inside off
+            (same-device-lines step inside is taken sized) (step-cut-in step inside is (came-so step is taken) (sized before.engine) up)
 
 -- ---- it does not come to the step
 
 -- the primary does not run
 pub cut-down : (old : Pair) (step : Due) (k : ℕ) (picks : Vec ℕ Global) → is_between (cut_of step) ≡ false → runs old.lives.primary ≡ false → IsStep old (events.Crash node.Primary (cut_of step) k picks) (Ok false) old
-cut-down old step k picks inside down = cut-stays old node.Primary (cut_of step) k picks inside (λ first second w stands. by step inside w (ap is_running stands.lives.primary ∙ running-as old.lives.primary (torn w.primary.life) ∙ down))
+cut-down old step k picks inside down = crash-idle old node.Primary (cut_of step) k picks (λ first second w stands. by step inside w (ap is_running stands.lives.primary ∙ running-as old.lives.primary (torn w.primary.life) ∙ down))
   where
     by : (step : Due) → is_between (cut_of step) ≡ false → (w : World) → is_running w.primary.life ≡ false → may_cut w node.Primary (cut_of step) ≡ false
     by due.Commit inside w off = ap (λ b. b && may_commit w) off
@@ -228,7 +217,7 @@ cut-down old step k picks inside down = cut-stays old node.Primary (cut_of step)
 pub cut-not-due : (old : Pair) (step : Due) (k : ℕ) (picks : Vec ℕ Global) → is_between (cut_of step) ≡ false → runs old.lives.primary ≡ true
     → (due_of old.primary.committing.stage old.primary.committing.aside old.primary.committing.waiting.items (link_has_room old.primary.handed.items) (nat_lt 0 (length old.primary.contents.current.gaps.items)) old.wire.remote ≡ step → ⊥)
     → IsStep old (events.Crash node.Primary (cut_of step) k picks) (Ok false) old
-cut-not-due old step k picks inside up never = cut-stays old node.Primary (cut_of step) k picks inside (λ first second w stands. by step inside never first second w (serves-as up stands))
+cut-not-due old step k picks inside up never = crash-idle old node.Primary (cut_of step) k picks (λ first second w stands. by step inside never first second w (serves-as up stands))
   where
     runs-not : (w : World) (b : Bool) {first second : Holder} → PairRefines first second old w → false ≡ b → (is_running w.primary.life && b) ≡ false
     runs-not w b stands off = ap (λ (life : Life). is_running life && b) (serving stands) ∙ sym off

@@ -1,25 +1,14 @@
 -- What a request that a fence fail, and the fence of the primary, do to the pair.
-use Rattle.std.proofs.Common.{rules, le_refl, ◌≡◌, inl, inr, ℕ, nat_lt, Bool, true, ◌&&◌, List, ◌∷◌, Ok, refl, sym, ap, ap₂, subst, ◌∙◌, [], false, not}
-use Rattle.world.specs.Words.{Allowed, At, Call, Contents, FailFence, Holder, Image, is_enabled, is_running, LeavesOnly, Remains, State, torn, World, Fence, is_retired, IsImage, Keeps, Life, with_life}
-use Rattle.pmem.proofs.Leaving.{MayLeave-now}
-use Rattle.machine.specs.declared.event.Node.{Node as Which}
+use Rattle.std.proofs.Common.{[], ap, ap₂, Bool, false, inl, inr, le_refl, List, nat_lt, not, Ok, refl, rules, subst, sym, true, ℕ, ◌&&◌, ◌∙◌, ◌∷◌, ◌≡◌}
+use Rattle.world.proofs.Words.{Acts, Allowed, AreLives, asked, asked_to_fail, At, Call, Contents, EitherRefines, Ended, EngineStands, FailFence, Fence, FreeingRefines, has_ended, Holder, Image, is_enabled, is_retired, is_running, LeavesOnly, Life, Lives, MayLeave-now, MovesNear, Node, NodesRefine, on_disk, OpensNear, Pair, PartsRefine, Remain, Remains, Retired, runs, Serving, StandbyRefines, StandbyStands, State, Steps, StillRefine, takes_part, torn, with_life, World}
 use Rattle.machine.specs.declared.event.Node.TheVariants as node
-use Rattle.machine.specs.Event.{asked_to_fail, on_disk, Retired}
-use Rattle.world.specs.Committing.{EngineStands}
-use Rattle.world.specs.Remaining.{MovesNear, OpensNear, Remain, LeftBy}
-use Rattle.follower.specs.Condition.{runs, has_ended}
-use Rattle.world.specs.Effect.{asked}
-use Rattle.world.specs.Pair.{FreeingRefines, Acts, EitherRefines, NodesRefine, Pair, PartsRefine, Steps, takes_part, Serving, AreLives, StillRefine, Lives}
-use Rattle.follower.specs.Standby.{Node, StandbyRefines, StandbyStands}
+use Rattle.machine.specs.declared.event.Node.{Node as Which}
 use Rattle.world.proofs.AroundLemmas.{around-stands}
-use Rattle.world.proofs.LivesLemmas.{not-crashed, not-over, not-still, stopped-still, running-as, serves-as, retired-as}
-use Rattle.world.proofs.PairLemmas.{primary-stands, standby-stands, asked-either, moves-primary, moves-standby, does-step, steps-to, steps-only, untouched}
-use Rattle.world.proofs.PairStandby.{follower, standby-either, with_standby_as}
-use Rattle.machine.specs.declared.event.Cut.TheVariants as cut
-use Rattle.follower.specs.declared.condition.Condition.TheVariants.{Ended}
-use Rattle.follower.proofs.DownLemmas.{settled-image}
-use Rattle.world.proofs.LeftLemmas.{left-fenced, left-running, left-there}
+use Rattle.world.proofs.LeftLemmas.{left-fenced, primary-left, primary-lines}
+use Rattle.world.proofs.LivesLemmas.{not-crashed, not-over, not-still, retired-as, running-as, serves-as, stopped-still}
+use Rattle.world.proofs.PairLemmas.{asked-either, does-step, moves-primary, moves-standby, primary-stands, standby-stands, steps-only, steps-to, untouched}
 use Rattle.world.proofs.PairLives.{stays-acts}
+use Rattle.world.proofs.PairStandby.{follower, standby-either, with_standby_as}
 
 -- ---- the device
 
@@ -143,25 +132,6 @@ primary-fenced old fenced = stays-acts old Fence (λ first second w stands. fenc
 
 abbrev pub with_fenced_primary : Pair → Pair
 with_fenced_primary pair = record pair { lives = record pair.lives { primary = Ended } }
-
--- its device may hold what a crash may leave of it now
-primary-left : (first second : Holder) (old : Pair) (w : World) → NodesRefine first second old w → (image : Image) → IsImage old.primary.device.words image → LeftBy first w cut.Between image
-primary-left first second old w stands image is = elim stands.parts [
-  | inl up ↦ left-running first second old w cut.Between image stands.sound up.1 (up.1.engine.durable image is)
-  | inr (inl down) ↦
-      let there = down.1.image in
-      left-there first w cut.Between there.contents image stands.sound there.contents_at there.lawful down.1.recalls
-      (subst (Keeps there.contents) (sym (settled-image old.primary.device.words image there.settled is)) there.keeps)
-  | inr (inr still) ↦ still.1.left image is
-]
-
--- and has the lines of its holder
-primary-lines : (first second : Holder) (old : Pair) (w : World) → old.primary.contents.lines ≡ old.primary.device.lines → NodesRefine first second old w → old.primary.device.lines ≡ first.lines
-primary-lines first second old w sized stands = elim stands.parts [
-  | inl up ↦ sym sized ∙ up.1.engine.contents_at.lines_are
-  | inr (inl down) ↦ sym down.1.image.sized ∙ down.1.image.contents_at.lines_are
-  | inr (inr still) ↦ still.1.lines_are
-]
 
 pub primary-fences : (old : Pair) → has_ended old.lives.primary ≡ false → old.primary.contents.lines ≡ old.primary.device.lines → Acts old Fence (Ok true) (with_fenced_primary old)
 primary-fences old unfenced sized = steps-only steps refl

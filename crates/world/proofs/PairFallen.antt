@@ -1,46 +1,30 @@
--- What a crash of the standby, inside a call of it or once it had stopped, does to the pair: its image is a standby's still, or that of the primary which it becomes.
-use Rattle.std.proofs.Common.{rules, ◌≡◌, ◌≢◌, ◌⊎◌, inl, inr, ℕ, zero, suc, ◌+◌, ◌<◌, ◌≤◌, Bool, true, false, ◌||◌, ◌&&◌, cond, if◌then◌else◌, List, [], ◌∷◌, ◌++◌, length, get_or, map, Option, Some, None, Ok, Vec, Global, refl, sym, ap, subst, ◌∙◌, arith, true≢false}
-use Rattle.world.specs.Words.{Allowed, AsFollower, AsPrimary, At, Call, crashed, Cut, cut_at, Follower, HasSeat, Holder, Image, image_of, is_between, is_enabled, IsSettled, IsUndamaged, LeavesOnly, left, left_by, may_cut, may_remain, position_of, promoted, Record, Remains, seats_of, State, Step, torn, with_standby, World}
-use Rattle.world.proofs.Words.{grows-step, lawful_undamaged, LeavesOnly-weaken, or_right, position_of-cut_at}
-use Rattle.std.specs.Prelude.{Contains}
-use Rattle.model.specs.declared.record.Role.{Role}
+-- What a crash of the standby does to the pair: its image is a standby's still, or that of the primary which it becomes.
+use Rattle.std.proofs.Common.{[], ap, append-nil, arith, cond, Global, if◌then◌else◌, inl, inr, List, map, None, Ok, Option, refl, rules, Some, subst, sym, true, true≢false, Vec, ℕ, ◌++◌, ◌+◌, ◌||◌, ◌∙◌, ◌≡◌, ◌≢◌, ◌≤◌, ◌⊎◌}
+use Rattle.world.proofs.Words.{AreLives, ArrivalsRefine, Arrived, AsFollower, AskedFences, AsPrimary, At, Call, ClientsRefine, ComesForward, Condition, Contains, Crashed, crashed, crashed_standby, Cut, cut_at, DownRefine, EitherRefines, Ended, FallsBehind, Finds, first_device, Follower, GoesByImage, grows-step, has_crashed, has_ended, has_stopped, HasSeat, HasStandby, Holder, Image, image_of, is_enabled, IsDown, IsSettled, IsStep, IsUndamaged, KeepsAs, KeepsAt, KeepsOne, KeepsPromoted, lawful_undamaged, LeavesOf, LeavesOne, LeavesOnly, LeavesOnly-weaken, left, left_by, life_as, may_cut, may_remain, Node, NodesRefine, OpensAt, OpensNear, Pair, past_of, position_of, position_of-cut_at, primary_number, promoted, promoted_holder, Record, Remains, Running, runs, seats_of, second_device, sound-promoted, StandbyRefines, State, Step, Steps, Stopped, Succeeds, surroundings_of, torn, with_standby, World}
 use Rattle.model.specs.declared.record.Role.TheVariants as role
 use Rattle.machine.specs.declared.event.Event.TheVariants as events
 use Rattle.machine.specs.declared.event.Node.TheVariants as node
-use Rattle.machine.specs.Event.{Role as MachineRole, crashed_standby}
-use Rattle.machine.proofs.SoundEvents.{sound-promoted}
-use Rattle.world.specs.Committing.{IsDown, OpensAt, promoted_holder}
-use Rattle.follower.specs.Condition.{has_crashed, has_ended, life_as}
-use Rattle.world.specs.Cutting.{ComesForward, FallsBehind, Finds, GoesByImage}
-use Rattle.world.specs.Effect.{LeavesOf}
-use Rattle.world.specs.declared.asked_fences.AskedFences.{AskedFences}
-use Rattle.follower.specs.declared.condition.Condition.{Condition}
-use Rattle.follower.specs.declared.condition.Condition.TheVariants.{Crashed, Ended}
-use Rattle.world.specs.Pair.{AreLives, DownRefine, EitherRefines, HasStandby, NodesRefine, Pair, Steps, Succeeds, first_device, primary_number, second_device, Lives, ClientsRefine, surroundings_of}
-use Rattle.world.specs.Remaining.{KeepsAs, KeepsAt, KeepsOne, KeepsPromoted, OpensNear}
-use Rattle.follower.specs.Standby.{Arrived, ArrivalsRefine, Node, StandbyRefines}
-use Rattle.world.proofs.AroundLemmas.{around-stands, around-promoted, arrivals-lost}
+use Rattle.machine.specs.declared.event.Cut.TheVariants as cut
+use Rattle.machine.specs.Event.{Role as MachineRole}
+use Rattle.model.specs.declared.record.Role.{Role}
+use Rattle.world.proofs.AroundLemmas.{around-promoted, around-stands, arrivals-lost}
 use Rattle.world.proofs.CutLemmas.{IsDown-cut}
-use Rattle.follower.proofs.KeptLemmas.{kept-down, promoted-down}
-use Rattle.world.proofs.RecallLemmas.{recalled-none}
-use Rattle.world.specs.Recalling.{past_of}
-use Rattle.world.proofs.PairCrash.{with_crashed_standby}
 use Rattle.world.proofs.DeviceLemmas.{cut-or-still, on-cut}
-use Rattle.world.proofs.PairLemmas.{does-step, moved-standby, standby-within, steps-to, steps-only}
+use Rattle.follower.proofs.KeptLemmas.{engine-keeps, keeps-here, kept-down, promoted-down}
+use Rattle.world.proofs.LivesLemmas.{goes-not-over}
+use Rattle.world.proofs.PairCrash.{crash-enabled, crash-may, HasCrashed, with_crashed_standby}
+use Rattle.world.proofs.PairLemmas.{does-step, moved-standby, standby-within, steps-only, steps-to}
 use Rattle.world.proofs.PairStandby.{standby-either}
 use Rattle.world.proofs.PromotionLemmas.{former_holder}
+use Rattle.world.proofs.RecallLemmas.{recalled-none}
+use Rattle.world.proofs.RemainLemmas.{keeps-near}
 use Rattle.world.proofs.StepLemmas.{is-step, promoted-is}
-use Rattle.world.specs.Step.{IsStep}
-
--- ---- which crash may come
-
--- one of the standby is enabled where it may come
-pub fall-enabled : {first second : Holder} {lives : Lives} {w : World} (call : Cut) (k : ℕ) (picks : Vec ℕ Global) → AreLives first second lives w
-    → is_enabled w (events.Crash node.Standby call k picks) ≡ may_cut w node.Standby call
-fall-enabled {first} {second} {lives} {w} call k picks are =
-    ap (λ (a : Allowed). a.restarts && ((is_between call || a.cuts) && may_cut w node.Standby call)) are.allowed_are ∙ ap (λ b. b && may_cut w node.Standby call) (or_right (is_between call) true refl)
 
 -- ---- what it left
+
+-- it crashed, and this of what was delivered to it was left
+abbrev pub with_taken : Arrived → Node → Pair → Pair
+with_taken arrivals node pair = record pair { wire = record pair.wire { arrivals = arrivals }; standby = node }
 
 -- It might come in this world, and left one of what the standby may leave there.
 pub record FallsIn (second : Holder) (w : World) (call : Cut) (old last : State) : Type 0 where
@@ -114,26 +98,8 @@ standby-cut old arrivals node' call k picks whole lost told first second w stand
     (moved-standby first second old new w w' stands.parts refl
     (λ _. on-cut second w event w' node.Standby old.standby.device node'.device (cut-or-still call k picks.items old.standby.device node'.device left-of) leaves))
 
--- all of these are a standby's
-abbrev pub are_behind : List Remains → Bool
-are_behind [] = true
-are_behind (At q ∷ others) = are_behind others
-are_behind (AsPrimary ∷ others) = false
-are_behind (AsFollower q ∷ others) = are_behind others
-
-pub one-behind : (others : List Remains) (one : Remains) → are_behind others ≡ true → Contains others one → (q : ℕ) × IsOfStandby q one
-one-behind others one behind is = by others behind is.0 is.1 is.2
-  where
-    by : (others : List Remains) → are_behind others ≡ true → (k : ℕ) → k < length others → get_or others k one ≡ one → (q : ℕ) × IsOfStandby q one
-    by [] behind k within at = absurd (omega (arith, within))
-    by (At q ∷ others) behind zero within at = (q, subst (IsOfStandby q) at refl)
-    by (At q ∷ others) behind (suc k) within at = by others behind k (omega (arith, within)) at
-    by (AsFollower q ∷ others) behind zero within at = (q, subst (IsOfStandby q) at refl)
-    by (AsFollower q ∷ others) behind (suc k) within at = by others behind k (omega (arith, within)) at
-    by (AsPrimary ∷ others) behind k within at = absurd (true≢false (sym behind))
-
 -- its image is a standby's in each world
-pub stays-behind : (old : Pair) (arrivals : Arrived) (node' : Node) (call : Cut) (k : ℕ) (picks : Vec ℕ Global) (fallen : HasFallen old call k picks node'.device)
+stays-behind : (old : Pair) (arrivals : Arrived) (node' : Node) (call : Cut) (k : ℕ) (picks : Vec ℕ Global) (fallen : HasFallen old call k picks node'.device)
     → arrivals.delivered.items ≡ [] → arrivals.acknowledgements ≡ old.wire.arrivals.acknowledgements
     → ((first second : Holder) (w : World) (stands : NodesRefine first second old w) → (q : ℕ) × IsOfStandby q (fallen.falls first second w stands).held.one)
     → IsStep old (events.Crash node.Standby call k picks) (Ok true) (with_crashed_standby arrivals node' old)
@@ -149,8 +115,42 @@ stays-behind old arrivals node' call k picks fallen lost told behind =
         let image = image_of node'.device.words in
         let it = fallen.falls first second w stands in
         let at = behind first second w stands in
-        standby-cut old arrivals node' call k picks fallen.whole lost told first second w stands (fall-enabled call k picks stands.lives ∙ it.may) at.0 it.held.one at.1 it.held.is_one
+        standby-cut old arrivals node' call k picks fallen.whole lost told first second w stands (crash-enabled node.Standby call k picks stands.lives ∙ it.may) at.0 it.held.one at.1 it.held.is_one
         (kept-down second calls at.0 node'.device (keeps-of second calls p at.0 image it.held.one at.1 it.held.keeps) fallen.settled it.lines_are) it.leaves fallen.left
+
+-- ---- between two calls
+
+-- each crash now leaves what it stands at, or what a fence that failed left
+standby-left : (holder : Holder) (epoch : ℕ) (calls : List Call) (p : ℕ) (remains : List Remains) (node' : Node) (condition : Condition) → (runs condition || has_stopped condition) ≡ true
+    → node'.contents.lines ≡ node'.device.lines → StandbyRefines holder epoch calls p remains node' condition → LeavesOne holder calls p remains node'.device
+standby-left holder epoch calls p remains node' Running goes sized is =
+    let engine = (is.stands refl).engine in
+    record {
+      lines_are = sym sized ∙ engine.contents_at.lines_are;
+      each = λ image at. keeps-here holder calls p remains image (engine-keeps holder calls p node'.device node'.contents node'.is_faulted engine image at);
+    }
+standby-left holder epoch calls p remains node' Stopped goes sized is = is.left refl
+standby-left holder epoch calls p remains node' condition goes sized is = absurd (true≢false (sym goes))
+
+pub between-falls : (old : Pair) (k : ℕ) (picks : Vec ℕ Global) (last : State) → (runs old.lives.standby || has_stopped old.lives.standby) ≡ true → old.standby.contents.lines ≡ old.standby.device.lines
+    → HasCrashed picks.items old.standby.device last → HasFallen old cut.Between k picks last
+between-falls old k picks last goes sized crashed = record {
+  whole = goes-not-over old.lives.standby goes;
+  settled = crashed.picked.settled;
+  left = (crashed.picked, crashed.failures);
+  falls = λ first second w stands.
+      let calls = w.primary.calls in
+      let p = w.standby.position in
+      let others = torn w.standby.life in
+      let left = standby-left second old.wire.link.epoch calls p others old.standby old.lives.standby goes sized (around-stands stands.parts).standby in
+      record {
+        may = (crash-may stands.lives).1 ∙ goes;
+        lines_are = sym left.lines_are ∙ sym crashed.lines_are;
+        held = subst (λ (remains : List Remains). KeepsOne second calls p remains (image_of last.words)) (sym (append-nil others)) (left.each (image_of last.words) crashed.picked.image);
+        leaves = subst (λ (remains : List Remains). LeavesOnly old.standby.device last (OpensNear second calls p remains)) (sym (append-nil others))
+            (LeavesOnly-weaken (OpensNear second calls p others) (λ image is. keeps-near second calls p others image (left.each image is)) crashed.moments);
+      };
+}
 
 -- ---- it is a primary's
 
@@ -214,10 +214,10 @@ promoted-stands {first} {second} {old} new w stands down floor ours ended unseat
       parts = inr (inl (ap has_crashed primary, parts));
     }
 
-comes-forward : (old : Pair) (node' : Node) (call : Cut) (k : ℕ) (picks : Vec ℕ Global) (new : Pair) (found : Option Record) (r : Record) → HasFallen old call k picks node'.device → Finds found node'.device → found ≡ Some r
-    → r.role ≡ role.Primary → ComesForward r.position r.epoch (record old { standby = node' }) new → IsStep old (events.Crash node.Standby call k picks) (Ok true) new
-comes-forward old node' call k picks new found r fallen finds is_found own comes =
-    promoted-is (Ok true) refl (record { succeeds = (refl, succeeds); cut = tt; calls = comes.calls }) fallen.whole first_stays comes.frames (ap (λ (acks : Vec (Vec ℕ Global) Global). acks.items) comes.told) left-of
+comes-forward : (old : Pair) (arrivals : Arrived) (node' : Node) (call : Cut) (k : ℕ) (picks : Vec ℕ Global) (new : Pair) (found : Option Record) (r : Record) → HasFallen old call k picks node'.device
+    → arrivals.acknowledgements ≡ old.wire.arrivals.acknowledgements → Finds found node'.device → found ≡ Some r → r.role ≡ role.Primary → ComesForward r.position r.epoch (with_taken arrivals node' old) new → IsStep old (events.Crash node.Standby call k picks) (Ok true) new
+comes-forward old arrivals node' call k picks new found r fallen same finds is_found own comes =
+    promoted-is (Ok true) refl (record { succeeds = (refl, succeeds); cut = tt; calls = comes.calls }) fallen.whole first_stays comes.frames (ap (λ (acks : Vec (Vec ℕ Global) Global). acks.items) (comes.told ∙ same)) left-of
   where
     over : has_ended new.lives.standby ≡ true
     over = ap has_ended comes.standby
@@ -254,7 +254,7 @@ comes-forward old node' call k picks new found r fallen finds is_found own comes
         (promoted-down second calls p node'.device ahead_held fallen.settled it.lines_are) in
         let here : r.position ≡ p = ap (λ (one : Record). one.position) told_as ∙ held.contents_at.at in
         let ended = subst (λ n. ClientsRefine new.clients (map left w.primary.connections) (cut_at calls n)) here (comes.ends w (around-stands stands.parts).sessions) in
-        promoted-stands new w stands fell.0 fell.1 (comes.epoch_is ∙ ap (λ (one : Record). one.epoch) told_as ∙ held.contents_at.epoch_is) ended comes.unseated comes.frames comes.lost comes.told comes.primary comes.standby comes.asked
+        promoted-stands new w stands fell.0 fell.1 (comes.epoch_is ∙ ap (λ (one : Record). one.epoch) told_as ∙ held.contents_at.epoch_is) ended comes.unseated comes.frames comes.lost (comes.told ∙ same) comes.primary comes.standby comes.asked
 
     succeeds : (first second : Holder) (w : World) → NodesRefine first second old w → Succeeds second w (events.Crash node.Standby call k picks) old new
     succeeds first second w stands =
@@ -264,7 +264,7 @@ comes-forward old node' call k picks new found r fallen finds is_found own comes
         let only = subst (λ (d : State). LeavesOnly d (second_device new) near) (sym (devices-are old fallen.whole).1) (subst (λ (d : State). LeavesOnly old.standby.device d near) (sym second_is) it.leaves) in
         record {
           world = promoted w;
-          step = does-step (fall-enabled call k picks stands.lives ∙ it.may)
+          step = does-step (crash-enabled node.Standby call k picks stands.lives ∙ it.may)
               (record { remain = AsPrimary; one = subst (λ (one : Remains). Contains (may_remain w node.Standby call) one) (ahead first second w stands).0 it.held.is_one; now = refl });
           position = refl;
           calls = refl;
@@ -284,16 +284,16 @@ which role.Primary = inl refl
 which role.Standby = inr (λ is. apart is)
 which role.Newcomer = inr (λ is. cc)
 
-pub goes-by-image : (old : Pair) (node' : Node) (call : Cut) (k : ℕ) (picks : Vec ℕ Global) (new : Pair) → HasFallen old call k picks node'.device → GoesByImage (record old { standby = node' }) new
-    → IsStep old (events.Crash node.Standby call k picks) (Ok true) new
-goes-by-image old node' call k picks new fallen goes = by goes.found refl
+pub goes-by-image : (old : Pair) (arrivals : Arrived) (node' : Node) (call : Cut) (k : ℕ) (picks : Vec ℕ Global) (new : Pair) → GoesByImage (with_taken arrivals node' old) new
+    → arrivals.acknowledgements ≡ old.wire.arrivals.acknowledgements → HasFallen old call k picks node'.device → IsStep old (events.Crash node.Standby call k picks) (Ok true) new
+goes-by-image old arrivals node' call k picks new goes same fallen = by goes.found refl
   where
-    behind : FallsBehind (record old { standby = node' }) new
+    behind : FallsBehind (with_taken arrivals node' old) new
         → ((first second : Holder) (w : World) → NodesRefine first second old w → KeepsPromoted second w.primary.calls w.standby.position (image_of node'.device.words) → ⊥)
         → IsStep old (events.Crash node.Standby call k picks) (Ok true) new
     behind falls never =
         subst (λ (pair : Pair). IsStep old (events.Crash node.Standby call k picks) (Ok true) pair) (sym falls.falls)
-        (stays-behind old new.wire.arrivals node' call k picks fallen falls.lost falls.told
+        (stays-behind old new.wire.arrivals node' call k picks fallen falls.lost (falls.told ∙ same)
         (λ first second w stands.
         let held = (fallen.falls first second w stands).held in
         one_at second w.primary.calls w.standby.position (image_of node'.device.words) held.one held.keeps (never first second w stands)))
@@ -306,7 +306,7 @@ goes-by-image old node' call k picks new fallen goes = by goes.found refl
     by : (found : Option Record) → goes.found ≡ found → IsStep old (events.Crash node.Standby call k picks) (Ok true) new
     by None is = behind (goes.none is) (λ first second w stands held. none_found goes.found held.kept.contents.current is (finds first second w stands held.kept))
     by (Some r) is = elim (which r.role) [
-      | inl own ↦ comes-forward old node' call k picks new goes.found r fallen goes.finds is own (goes.serving r is own)
+      | inl own ↦ comes-forward old arrivals node' call k picks new goes.found r fallen same goes.finds is own (goes.serving r is own)
       | inr other ↦
           behind (goes.following r is other)
           (λ first second w stands held.

@@ -1,29 +1,14 @@
 -- What freeing a list does to the pair, of what it does to its parts.
 use Rattle.std.proofs.Common.{rules, ◌≡◌, ◌⊎◌, ◌-◌, ◌+◌, ◌<◌, ◌≤◌, inl, inr, Bool, true, false, cond, List, ◌∷◌, ◌++◌, length, drop, Result, Ok, Err, refl, sym, ap, subst, ◌∙◌, arith, length-append, true≢false, []}
-use Rattle.world.specs.Words.{after_free, AreEnded, AreWorkOf, Call, Committer, Contents, Done, due_now, Event, Exhausted, ExhaustsRaising, Fault, floor_raised, Freed, FreeList, Group, has_room, Holder, Image, IsImage, KeepsFreed, LeavesOnly, MachineWork, may_happen, Memory, notices_of, positions_of_lists, reached_lists, Record, Refusal, Remembers, Stage, State, Waiting, without, Work, World, COUNTER_LIMIT}
-use Rattle.world.proofs.Words.{AllEnded, AllEnded-listed, HasRecord-lines, laid-engine, lawful_raised, lawful_without, le-max_left, leads_renumbered, LeavesOnly-weaken, none_leaves, Same-is}
-use Rattle.std.proofs.Math.Nat.{le-max_right}
+use Rattle.world.proofs.Words.{after_free, AllEnded, AllEnded-listed, AreEnded, AreEnded-first, AreWorkOf, asks_memory, Breaks, Call, Committer, CommittingRefines, consistent_renumbered, Contents, COUNTER_LIMIT, Does, Done, due_now, EndsBy, entries_of_lists, Event, Exhausted, ExhaustsRaising, Fault, floor_raised, free-now, Freed, FreeingRefines, FreeIsDue, FreeList, FreesOldest, FreesReached, Group, has_room, HasRecord-lines, Holder, Image, IsAtLimit, IsCut, IsImage, KeepsFreed, KeepsWithoutSome, laid-engine, laid_renumbered, lawful_raised, lawful_without, le-max_left, le-max_right, Leads, Leads-freed, leads_renumbered, LeavesOnly, LeavesOnly-weaken, LeftBy, link_has_room, MachineWork, may_happen, Memory, next_primary, none_leaves, notices_of, OpensAt, Pair, PairRefines, PartsRefine, past_of, positions_of_lists, reached_lists, reached_now, recalls-more, recalls-without, Record, Refusal, Remembers, remembers-freed, RemembersFor, Resting, RestsAtLimit, Same-is, Stage, StageRefines, State, Waiting, without, Work, World}
 use Rattle.model.specs.declared.record.Role.TheVariants as role
-use Rattle.wbl_engine.specs.Freeing.{KeepsWithoutSome}
 use Rattle.group_commit.specs.Due.{left_by}
-use Rattle.group_commit.specs.Working.{FreesReached, entries_of_lists}
 use Rattle.group_commit.specs.declared.due.Due.TheVariants as due
-use Rattle.group_commit.proofs.DueLemmas.{FreeIsDue, free-now}
-use Rattle.group_commit.proofs.FreedLemmas.{AreEnded-first}
 use Rattle.machine.specs.declared.event.Cut.TheVariants as cut
 use Rattle.machine.specs.declared.event.Event.TheVariants as events
 use Rattle.machine.specs.Event as machine
-use Rattle.world.specs.Cause.{Breaks, EndsBy, IsAtLimit, Resting, RestsAtLimit, asks_memory}
-use Rattle.world.specs.Committing.{CommittingRefines, Leads, OpensAt, StageRefines, link_has_room, next_primary, reached_now}
-use Rattle.world.specs.Pair.{Does, FreeingRefines, IsCut, Pair, PairRefines, PartsRefine}
-use Rattle.world.specs.Effect.{FreesOldest}
 use Rattle.primary.proofs.KeptTurns.{remembers-reached}
-use Rattle.primary.proofs.RecallLemmas.{recalls-without, remembers-freed}
-use Rattle.primary.proofs.RecallParts.{recalls-more}
-use Rattle.world.specs.Recalling.{RemembersFor, past_of}
 use Rattle.primary.specs.Leading.{AreLaid}
-use Rattle.primary.proofs.NumberedLemmas.{consistent_renumbered, laid_renumbered}
-use Rattle.primary.proofs.FreedQueue.{Leads-freed}
 use Rattle.primary.proofs.TurnedLemmas.{Leads-reached}
 use Rattle.world.proofs.LivesLemmas.{enabled-is, is_own, nodes-refine, own-runs}
 use Rattle.world.proofs.EngineLemmas.{Opens-engine}
@@ -31,7 +16,6 @@ use Rattle.world.proofs.PairLemmas.{Led, cut-for, cut-same, rests-running, rests
 use Rattle.world.proofs.QueueLemmas.{free-disabled, free-enabled, reached-positions, room-link}
 use Rattle.world.proofs.PairTurns.{Took, Waiting-same, pair_of, pair_with}
 use Rattle.world.proofs.FreeingLemmas.{contents-raised, contents-without, engine-freed, freed-moments, primary-limit, primary-steps, raising-limit, stays-near}
-use Rattle.world.specs.Remaining.{LeftBy}
 use Rattle.world.proofs.LeftLemmas.{left-running, left-still, left-there}
 use Rattle.world.proofs.RecallLemmas.{remembered-from, remembers-raised, remembers-renumbered}
 

@@ -1,37 +1,22 @@
 -- What each event does to a pair whose primary runs, of what it does to its parts.
 use Rattle.std.proofs.Common.{rules, ◌≡◌, inl, inr, ℕ, ◌≤◌, Bool, true, false, List, ◌∷◌, ◌++◌, length, slice_index_or, Result, Ok, Err, IfOk, IfErr, OnErr, Vec, Global, refl, sym, ap, ap₂, subst, ◌∙◌, arith, le_refl, true≢false, []}
-use Rattle.world.specs.Words.{AddsOne, Call, called, Connection, Connections, Event, Goes, Happens, Holder, is_enabled, left, Mark, may_happen, Memory, position_of, reach, Refusal, Remains, seats_of, SeatsFollow, SequencerRefines, Sequencing, Sound, StandsOver, Step, torn, Transcript, with_outbound, World}
-use Rattle.world.proofs.Words.{chain-le, EngineStands-grows, laid-engine, length-map, length-released, released-told, sound-step}
+use Rattle.world.proofs.Words.{AddsOne, AreLives, AskedFences, asks_memory, Call, called, chain-le, Clients, ClientsRefine, Condition, Connection, Connections, Crashed, Does, DoesTo, EitherRefines, Ended, EndsBy, EngineStands-grows, Event, Goes, Happens, has_ended, HasStandby, having_seen, Holder, is_enabled, is_open_at, IsCut, IsListOf, IsRoomier, KeepsSeats, laid-engine, left, length-map, length-released, Mark, may_enter, may_happen, Memory, MovesAs, MovesBoth, MovesNear, new_connection, next_primary, next_standby, Node, NodesRefine, OrLies, Pair, PairRefines, PartsRefine, past_of, position_of, reach, Refusal, released-told, Remain, Remains, remembers-still, Resting, Rests, Running, runs, seats_of, SeatsFollow, SequencerRefines, Sequencing, Sound, sound-step, StandbyRefines, StandsOver, StandsStill, Step, Steps, Stopped, Stretch, TakesTurn, TellsTheSame, ToldAs, torn, Transcript, with_connections, with_outbound, World}
 use Rattle.machine.specs.declared.event.Event.TheVariants as events
 use Rattle.machine.specs.declared.event.Node.TheVariants as node
-use Rattle.machine.specs.Connection.{having_seen, is_open_at, may_enter}
-use Rattle.machine.specs.Event.{Turns, changed_at, new_connection, with_connections}
+use Rattle.machine.specs.Event.{Turns, changed_at}
 use Rattle.machine.proofs.SoundConnection.{reach-low, uncalled}
-use Rattle.world.specs.Cause.{OrLies, Stretch, EndsBy, asks_memory, Resting}
-use Rattle.world.specs.Committing.{Rests, next_primary, next_standby}
-use Rattle.world.specs.Remaining.{MovesAs, MovesNear, Remain}
-use Rattle.connections.specs.Session.{IsListOf, KeepsSeats, StandsStill, TakesTurn, TellsTheSame}
-use Rattle.world.specs.Pair.{DoesTo, ToldAs, Clients, ClientsRefine, HasStandby, Pair, EitherRefines, NodesRefine, PartsRefine, PairRefines, IsCut, MovesBoth, Steps, Does, AreLives}
-use Rattle.follower.specs.Standby.{Node, StandbyRefines}
 use Rattle.world.proofs.AroundLemmas.{around-stands, around-clients, around-grows}
 use Rattle.world.proofs.LivesLemmas.{Runs, enabled-is, is_own, is_plain, lives-step, nodes-refine, own-runs}
-use Rattle.world.specs.Step.{IsRoomier}
 use Rattle.connections.proofs.SeatLemmas.{follow-kept}
 use Rattle.connections.proofs.SequencerLemmas.{still-same}
 use Rattle.node_steps.proofs.StillLemmas.{freeing-still, leads-still}
 use Rattle.world.proofs.RecallLemmas.{remembered-from, remembered-on, opening-still}
-use Rattle.world.specs.Recalling.{past_of}
-use Rattle.node_steps.proofs.RecallLemmas.{remembers-still}
 use Rattle.world.proofs.EngineLemmas.{Opens-engine, rests-same}
 use Rattle.world.proofs.DeviceLemmas.{on-near, on-still}
 use Rattle.world.proofs.RemainLemmas.{keeps-near, left-near, lies-still, remain-from}
 use Rattle.world.proofs.CommittingLemmas.{CommittingRefines-grows}
 use Rattle.world.proofs.LinkLemmas.{LinkRefines-grows}
 use Rattle.follower.proofs.DownLemmas.{Opens-down}
-use Rattle.follower.specs.Condition.{has_ended, runs}
-use Rattle.follower.specs.declared.condition.Condition.{Condition}
-use Rattle.follower.specs.declared.condition.Condition.TheVariants.{Running, Stopped, Crashed, Ended}
-use Rattle.world.specs.declared.asked_fences.AskedFences.{AskedFences}
 
 -- ---- what stands
 

@@ -1,19 +1,10 @@
 -- What the events of the link and its acknowledgements do to the pair, of what they do to its parts.
-use Rattle.std.proofs.Common.{rules, ◌≡◌, inl, ℕ, ◌≤◌, max, Bool, true, false, nat_eq, nat_le, nat_lt, List, ◌∷◌, ◌++◌, length, map, take, ◌||◌, ◌&&◌, inr, slice_get, Option, Some, None, Result, Ok, Err, Vec, Global, ◌<◌, refl, sym, ap, ap₂, subst, ◌∙◌, arith, true≢false, cond, eqb-true, All, []}
-use Rattle.world.specs.Words.{Ack, Acknowledged, acknowledged, Acknowledgement, Call, Changes, Contents, Copying, Frame, Freed, Group, Holder, is_nonempty, IsLegal, IsWithinLimits, KEPT_GROUPS, knowing, MachineLink, may_happen, Memory, next_to_send, Opening, option_items, Refusal, Sent, sent_next, sent_of_ack, sent_of_frame, sent_text, sent_with, Sequencing, Span, Stream, told, Waiting, with_link, World}
-use Rattle.world.proofs.Words.{All-append, all-at, All-cons, All-head, All-nil, cases_lt, le-leb, le-ltb, lt-ltb, slice_get_within}
-use Rattle.std.proofs.lemmas.Bool.{ltb-false}
-use Rattle.standby_stream.specs.Stream.{counts}
+use Rattle.std.proofs.Common.{rules, ◌≡◌, inl, ℕ, ◌≤◌, max, Bool, true, false, nat_le, nat_lt, List, ◌∷◌, ◌++◌, length, map, take, ◌||◌, ◌&&◌, inr, slice_get, Option, Some, None, Result, Ok, Err, Vec, Global, ◌<◌, refl, sym, ap, ap₂, subst, ◌∙◌, arith, true≢false, cond, eqb-true, All, []}
+use Rattle.world.proofs.Words.{Ack, Acknowledged, acknowledged, Acknowledgement, All-append, all-at, All-cons, All-head, All-nil, AreFramesOf, AreFramesSent, Call, cases_lt, Changes, Contents, Copying, counts, Does, Frame, framed, Freed, FreeingRefines, Group, has_ended, Holder, is_nonempty, IsAckSent, IsFrameOf, IsFrameSent, IsLegal, IsOwn, IsToldWithin, IsWithinLimits, KEPT_GROUPS, knowing, le-leb, le-ltb, LinkRefines, lt-ltb, ltb-false, MachineLink, may_happen, may_send, Memory, next_to_send, Opening, OpeningLeads, option_items, Pair, PairRefines, PartsRefine, raised_remote, Refusal, Sent, sent, sent_next, sent_of_ack, sent_of_frame, sent_text, sent_with, Sequencing, slice_get_within, Span, Steps, Stream, told, told_by, Waiting, with_link, with_sent, World}
 use Rattle.machine.specs.declared.event.Event.TheVariants as events
-use Rattle.machine.specs.Event.{Primary, counts as machine_counts, may_send, framed, sent, raised_remote, with_sent}
-use Rattle.machine.specs.Sound.{IsToldWithin}
+use Rattle.machine.specs.Event.{Primary, counts as machine_counts}
 use Rattle.world.proofs.AroundLemmas.{around-sent}
 use Rattle.world.proofs.LivesLemmas.{nodes-refine, own-runs}
-use Rattle.follower.specs.Condition.{has_ended}
-use Rattle.world.specs.Link.{IsFrameOf, AreFramesOf, IsFrameSent, IsOwn, IsAckSent, AreFramesSent, LinkRefines}
-use Rattle.world.specs.Recalling.{OpeningLeads}
-use Rattle.follower.specs.Standby.{told_by}
-use Rattle.world.specs.Pair.{Does, FreeingRefines, Pair, PairRefines, PartsRefine, Steps}
 use Rattle.follower.proofs.FrameLemmas.{AreFramesSent-push, may_be_sent, ack_of_read, ack_of_number, length-acks}
 use Rattle.world.proofs.LinkLemmas.{Answers as LinkAnswers, sends, knows}
 use Rattle.follower.proofs.ArrivalLemmas.{ReadsAs, same_found}

@@ -1,11 +1,9 @@
 -- What an event does to any pair: where its nodes do not take part, and where its primary runs.
 use Rattle.std.proofs.Common.{◌≡◌, ◌&&◌, Bool, true, false, Result, Ok, Err, refl, sym, ap, ap₂, subst, ◌∙◌, true≢false}
-use Rattle.world.specs.Words.{are_running, Cut, Event, Holder, is_between, is_enabled, is_follower, is_retired, is_running, may_happen, nodes_run, Promote, Refusal, row, torn, World}
+use Rattle.world.proofs.Words.{Acts, are_running, AreLives, Cut, Does, Event, has_ended, Holder, is_between, is_enabled, is_follower, is_retired, is_running, Lives, may_happen, nodes_run, NodesRefine, Pair, Promote, Refusal, row, runs, takes_part, torn, World}
 use Rattle.machine.specs.declared.event.Cut.TheVariants as cut
-use Rattle.world.specs.Pair.{Acts, AreLives, Does, NodesRefine, Pair, takes_part, Lives}
 use Rattle.world.proofs.LivesLemmas.{retired-as, running-as, serves-as}
 use Rattle.world.proofs.PairLemmas.{steps-none, steps-only}
-use Rattle.follower.specs.Condition.{has_ended, runs}
 
 -- the nodes of an event run just where they are said to
 nodes-take : {first second : Holder} {lives : Lives} {w : World} → AreLives first second lives w → (event : Event) → nodes_run w event ≡ takes_part (runs lives.primary) (runs lives.standby) event

@@ -1,19 +1,9 @@
 -- What the promotion of the standby does to the pair.
 use Rattle.std.proofs.Common.{◌≡◌, ◌⊎◌, inl, inr, ℕ, ◌<◌, Bool, true, ◌&&◌, List, [], ◌++◌, map, Result, Ok, Err, Vec, Global, refl, sym, ap, ap₂, subst, ◌∙◌, arith}
-use Rattle.world.specs.Words.{AddsOne, Allowed, Contents, cut_at, ExhaustsPromotion, Fault, HasSeat, Holder, Image, is_enabled, is_follower, is_retired, is_running, is_stopped, LeavesOnly, left, Opening, Promote, promoted, Refusal, Remains, Reopen, seats_of, State, Step, Stream, torn, Transcript, World}
-use Rattle.world.proofs.Words.{LeavesOnly-weaken}
+use Rattle.world.proofs.Words.{Acts, AddsOne, Allowed, AreLives, Arrived, Clients, ClientsRefine, Contents, Crashed, cut_at, Ended, ExhaustsPromotion, Fault, first_device, has_ended, HasSeat, HasStandby, Holder, Image, is_enabled, is_follower, is_retired, is_running, is_stopped, IsPromotionCut, IsStep, LeavesOnly, LeavesOnly-weaken, left, Lives, next_standby, Node, NodesRefine, Opening, OpensAsEither, OpensAsOne, OpensAt, OpensNear, Pair, Promote, promoted, promoted_holder, Promoting, Refusal, Remains, Reopen, runs, seats_of, second_device, Serving, State, Step, Stream, Succeeds, ToldAs, torn, Transcript, unfailed, World}
 use Rattle.model.specs.declared.record.Role.TheVariants as role
 use Rattle.machine.specs.declared.event.Cut.TheVariants as cut
 use Rattle.machine.specs.declared.event.Node.TheVariants as node
-use Rattle.machine.proofs.SureLemmas.{unfailed}
-use Rattle.world.specs.Cause.{Promoting}
-use Rattle.world.specs.Committing.{OpensAsEither, OpensAt, next_standby, promoted_holder}
-use Rattle.follower.specs.Condition.{has_ended, runs}
-use Rattle.follower.specs.declared.condition.Condition.TheVariants.{Crashed, Ended}
-use Rattle.world.specs.Pair.{ToldAs, Acts, AreLives, HasStandby, IsPromotionCut, NodesRefine, Pair, Succeeds, first_device, second_device, Lives, Clients, ClientsRefine, Serving}
-use Rattle.world.specs.Remaining.{OpensAsOne, OpensNear}
-use Rattle.follower.specs.Standby.{Arrived, Node}
-use Rattle.world.specs.Step.{IsStep}
 use Rattle.world.proofs.AroundLemmas.{around-stands}
 use Rattle.follower.proofs.KeptLemmas.{KeepsAsEither}
 use Rattle.world.proofs.LivesLemmas.{not-over, retired-as, running-as}

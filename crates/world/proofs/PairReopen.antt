@@ -1,37 +1,24 @@
 -- What the reopening of a node that crashed does to the pair.
-use Rattle.std.proofs.Common.{cond, rules, le_refl, ◌≡◌, inl, inr, Bool, true, false, ◌&&◌, List, length, Result, Ok, Err, refl, sym, ap, subst, ◌∙◌, arith, true≢false, []}
-use Rattle.world.specs.Words.{Allowed, AreEnded, cut_at, delta_changes, entries_of, Event, Fault, Follows, Freed, Holder, Image, image_of, is_crashed, is_enabled, IsMapOf, IsOpening, IsOver, keyspace_after, layout_in, MachineCommitter, Memory, new_stream, Opening, play_all, Ready, RecallsEach, records, Refusal, RefusesReopening, Remembers, SequencerRefines, Sequencing, Shows, State, Step, Stream, torn, with_standby, World}
-use Rattle.world.proofs.Words.{IsKeyspace-keyspace_after}
+use Rattle.std.proofs.Common.{[], ap, arith, Bool, cond, Err, false, inl, inr, le_refl, length, List, Ok, refl, Result, rules, subst, sym, true, true≢false, ◌&&◌, ◌∙◌, ◌≡◌}
+use Rattle.world.proofs.Words.{Acts, Allowed, AreEnded, AreKeyspaces, AreLives, CommittingRefines, Condition, cut_at, delta-leads, delta_changes, DownRefine, EitherRefines, EndsBy, entries_of, Event, Freed, has_crashed, Holder, Image, image_of, is_crashed, is_enabled, IsCut, IsKeyspace-keyspace_after, IsMapOf, IsOpening, IsOver, keeps-opened, keyspace_after, keyspace_after-cut_at-position, LinkRefines, Lives, MachineCommitter, new_stream, next_primary, next_standby, Node, NodesRefine, Opening, OpeningLeads, Pair, PartsRefine, past_of, play_all, Ready, recalls-of, RecallsEach, records, Refusal, Remembers, RemembersFor, reopened_primary, reopened_standby, Running, SequencerRefines, Sequencing, Serving, Shows, StandbyRefines, StandbyStands, Step, Steps, Stream, surroundings_in, surroundings_of, SurroundingsRefine, torn, with_primary, with_standby, World}
 use Rattle.model.specs.declared.record.Role.TheVariants as role
-use Rattle.model.proofs.LayoutLemmas.{gaps_fit}
-use Rattle.model.proofs.CallsLemmas.{keyspace_after-cut_at-position}
-use Rattle.standby_stream.proofs.FitLemmas.{deltas_fit}
 use Rattle.machine.specs.declared.event.Event.TheVariants as events
 use Rattle.machine.specs.declared.event.Node.TheVariants as node
-use Rattle.machine.specs.Event.{reopened_primary, reopened_standby, with_primary}
-use Rattle.world.specs.Cause.{EndsBy, Stretch}
-use Rattle.world.specs.Committing.{CommittingRefines, next_primary, next_standby}
-use Rattle.world.specs.Link.{LinkRefines}
-use Rattle.primary.specs.Recalling.{AreKeyspaces}
-use Rattle.primary.proofs.KeptImages.{delta-leads, keeps-opened, recalls-of}
+use Rattle.model.proofs.LayoutLemmas.{gaps_fit}
+use Rattle.primary.proofs.FittingLemmas.{have_their_lines}
 use Rattle.primary.proofs.OpenedLemmas.{leads_to}
-use Rattle.world.specs.Recalling.{OpeningLeads, RemembersFor, past_of}
+use Rattle.standby_stream.proofs.FitLemmas.{deltas_fit}
 use Rattle.world.proofs.AroundLemmas.{around-stands}
-use Rattle.world.proofs.RecallLemmas.{remembered-from, have_their_lines, in_order}
-use Rattle.follower.specs.Standby.{Node, StandbyRefines, StandbyStands}
-use Rattle.world.specs.Pair.{Acts, AreLives, DownRefine, EitherRefines, IsCut, NodesRefine, Pair, PartsRefine, Steps, Lives, Serving, SurroundingsRefine, surroundings_of, surroundings_in}
-use Rattle.follower.proofs.DownLemmas.{restart-refused}
 use Rattle.world.proofs.FormLemmas.{committing-nothing, leads-nothing}
-use Rattle.world.proofs.PairLemmas.{Led, cut-for, rests-primary, rests-standby, tells, moves-primary, moves-standby, does-step, steps-to, steps-only, cut-only}
-use Rattle.follower.proofs.OpenedLemmas.{IsNotOpened, IsOpened, opened-breaks, opened-floor, opened-gaps, opened-limit, opened-moves, opened-rests, opened-stands, table-there}
+use Rattle.world.proofs.LinkLemmas.{link-nothing}
+use Rattle.world.proofs.LivesLemmas.{crashed-as, crashed-not-over, not-crashed, still-not-crashed}
+use Rattle.follower.proofs.OpenedLemmas.{IsNotOpened, IsOpened, opened-floor, opened-gaps, opened-moves, opened-stands, table-there, why-not-opened}
+use Rattle.world.proofs.PairLemmas.{cut-for, cut-only, does-step, Led, moves-primary, moves-standby, rests-primary, rests-standby, steps-only, steps-to, tells}
 use Rattle.world.proofs.PairLives.{stays-acts}
 use Rattle.world.proofs.PairStandby.{standby-either}
-use Rattle.world.proofs.LivesLemmas.{crashed-not-over, still-not-crashed, not-crashed, crashed-as}
-use Rattle.follower.specs.Condition.{has_crashed}
-use Rattle.follower.specs.declared.condition.Condition.{Condition}
-use Rattle.follower.specs.declared.condition.Condition.TheVariants.{Running}
+use Rattle.world.proofs.RecallLemmas.{in_order, remembered-from}
 use Rattle.world.proofs.RemainLemmas.{near-from}
-use Rattle.world.proofs.LinkLemmas.{link-nothing}
+use Rattle.world.specs.Words.{Follows}
 
 -- ---- a node that runs
 
@@ -87,10 +74,6 @@ standby-reopens old node' fallen opened follows own = steps-only steps refl
         (moves-standby first second old new w w' stands.parts refl
         (λ whole. near-from second calls p p (torn w.standby.life) old.standby.device node'.device (opened-moves second calls p old.standby.device node'.device down opened.moments opened.failures)))
 
--- why a reopening ended the run
-opened-ends : (event : Event) (refusal : Refusal) (P : Stretch → Stretch → Type 0) → refusal ≡ Fault → EndsBy Fault event P → EndsBy refusal event P
-opened-ends event refusal P is ends = subst (λ (r : Refusal). EndsBy r event P) (sym is) ends
-
 pub standby-reopening-cut : (old : Pair) (node' : Node) (result : Result Bool Refusal) (refusal : Refusal) → result ≡ Err refusal → has_crashed old.lives.standby ≡ true → IsNotOpened role.Standby old.standby.device node'.device refusal
     → Acts old (events.Reopen node.Standby) result (with_standby_node node' old.lives.standby old)
 standby-reopening-cut old node' result refusal is fallen refused =
@@ -104,30 +87,16 @@ standby-reopening-cut old node' result refusal is fallen refused =
 
     cut : (first second : Holder) (w : World) → NodesRefine first second old w → IsCut first second event refusal old new w
     cut first second w stands =
-        let calls = w.primary.calls in
-        let p = w.standby.position in
-        let next = next_standby w in
-        let device = old.standby.device in
         let down = (around-stands stands.parts).standby.down fallen in
         let here = rests-primary first second old w stands in
-        let memory : refusal ≡ Memory → node'.device.failures ≡ device.failures → EndsBy refusal event (Led first second old new w) =
-        λ is same. subst (λ (r : Refusal). EndsBy r event (Led first second old new w)) (sym is) (refl, (here, λ whole. inl (opened-rests second calls p device node'.device down refused.moments same))) in
+        let mine = subst (λ r. IsNotOpened r old.standby.device node'.device refusal) (sym stands.lives.second_role) refused in
         let ends : EndsBy refusal event (Led first second old new w) =
-        elim refused.refused [
-          | inl fault ↦ opened-ends event refusal (Led first second old new w) fault (here, λ whole. inl (opened-breaks second calls p next device node'.device down refused.moments (refused.fault fault)))
-          | inr (inl is) ↦ memory is (refused.failures (λ fault. memory_no_fault (sym is ∙ fault)))
-          | inr (inr why) ↦
-              let mine = subst (λ r. RefusesReopening (layout_in (image_of device.words)) device.lines (image_of device.words) r refusal) (sym stands.lives.second_role) why.0 in
-              elim (restart-refused second calls p device refusal down mine) [
-                | inl is ↦ memory is (ap (λ (d : State). d.failures) why.1)
-                | inr full ↦ subst (λ (r : Refusal). EndsBy r event (Led first second old new w)) (sym full.0)
-                    (here, λ whole. inl (opened-limit second calls p next device node'.device full.1.0 down refused.moments why.1 full.1.1 full.1.2))
-              ]
+        elim (why-not-opened second w.primary.calls w.standby.position (next_standby w) old.standby.device node'.device refusal down mine) [
+          | inl fault ↦ subst (λ (r : Refusal). EndsBy r event (Led first second old new w)) (sym fault.0) (here, λ whole. inl fault.1)
+          | inr (inl memory) ↦ subst (λ (r : Refusal). EndsBy r event (Led first second old new w)) (sym memory.0) (refl, (here, λ whole. inl memory.1))
+          | inr (inr full) ↦ subst (λ (r : Refusal). EndsBy r event (Led first second old new w)) (sym full.0) (here, λ whole. inl full.1)
         ] in
         cut-for first second event refusal old new w stands (tells old.clients.transcript) refl (standby-opens stands.lives ∙ fallen) ends
-      where
-        memory_no_fault : Memory ≡ Fault → ⊥
-        memory_no_fault is = cc
 
 -- ---- the primary
 
@@ -262,27 +231,13 @@ primary-reopening-cut old serving result refusal is fallen refused =
 
     cut : (first second : Holder) (w : World) → NodesRefine first second old w → IsCut first second event refusal old new w
     cut first second w stands =
-        let calls = w.primary.calls in
-        let p = w.primary.committer.position in
-        let next = next_primary w in
-        let device = old.primary.device in
         let down = (fallen-parts old fallen stands.parts).image in
         let there = rests-standby first second old w stands in
-        let memory : refusal ≡ Memory → serving.device.failures ≡ device.failures → EndsBy refusal event (Led first second old new w) =
-        λ is same. subst (λ (r : Refusal). EndsBy r event (Led first second old new w)) (sym is) (refl, (inl (opened-rests first calls p device serving.device down refused.moments same), there)) in
+        let mine = subst (λ r. IsNotOpened r old.primary.device serving.device refusal) (sym stands.lives.first_role) refused in
         let ends : EndsBy refusal event (Led first second old new w) =
-        elim refused.refused [
-          | inl fault ↦ opened-ends event refusal (Led first second old new w) fault (inl (opened-breaks first calls p next device serving.device down refused.moments (refused.fault fault)), there)
-          | inr (inl is) ↦ memory is (refused.failures (λ fault. memory_no_fault (sym is ∙ fault)))
-          | inr (inr why) ↦
-              let mine = subst (λ r. RefusesReopening (layout_in (image_of device.words)) device.lines (image_of device.words) r refusal) (sym stands.lives.first_role) why.0 in
-              elim (restart-refused first calls p device refusal down mine) [
-                | inl is ↦ memory is (ap (λ (d : State). d.failures) why.1)
-                | inr full ↦ subst (λ (r : Refusal). EndsBy r event (Led first second old new w)) (sym full.0)
-                    (inl (opened-limit first calls p next device serving.device full.1.0 down refused.moments why.1 full.1.1 full.1.2), there)
-              ]
+        elim (why-not-opened first w.primary.calls w.primary.committer.position (next_primary w) old.primary.device serving.device refusal down mine) [
+          | inl fault ↦ subst (λ (r : Refusal). EndsBy r event (Led first second old new w)) (sym fault.0) (inl fault.1, there)
+          | inr (inl memory) ↦ subst (λ (r : Refusal). EndsBy r event (Led first second old new w)) (sym memory.0) (refl, (inl memory.1, there))
+          | inr (inr full) ↦ subst (λ (r : Refusal). EndsBy r event (Led first second old new w)) (sym full.0) (inl full.1, there)
         ] in
         cut-for first second event refusal old new w stands (tells old.clients.transcript) refl (primary-opens stands.lives ∙ fallen) ends
-      where
-        memory_no_fault : Memory ≡ Fault → ⊥
-        memory_no_fault is = cc

@@ -1,28 +1,17 @@
 -- What the events of the standby do to the pair, of what they do to its parts.
 use Rattle.std.proofs.Common.{rules, ◌≡◌, ◌&&◌, inl, inr, ℕ, max, Bool, true, false, List, ◌∷◌, ◌++◌, length, slice_get, cond, Option, Some, None, Result, Ok, Err, IfOk, IfErr, OnErr, All, Vec, Global, ◌<◌, ◌≤◌, refl, sym, ap, subst, ◌∙◌, arith, le_refl, true≢false, ap₂, []}
-use Rattle.world.specs.Words.{Ack, Acknowledgement, acknowledgement_of, Call, changes_size, cut_at, delivered, Event, Exhausted, Fault, Frame, Goes, Happens, Holder, is_running, IsServed, keyspace_after, MAX_BODY_BYTES, may_happen, Memory, nodes_run, Opening, option_items, play_all, Refusal, Role, Sound, Span, Step, Stream, told, torn, with_acknowledged, with_link, with_standby, without_first, World}
-use Rattle.world.proofs.Words.{cases_lt, grows-step, le-ltb, lt-ltb}
+use Rattle.world.proofs.Words.{Ack, acknowledged_of, Acknowledgement, acknowledgement_of, Acts, AppliesFirst, AreFramesOf, AreFramesSent, AroundRefines, ArrivalsRefine, Arrived, Breaks, Call, cases_lt, changes_size, Condition, cut_at, delivered, Does, due_delta, due_from, EitherRefines, EndsBy, Event, Exhausted, Fault, Frame, Goes, grows-step, Happens, has_ended, HasFollower, Holder, is_running, IsDelta, IsFrameOf, IsOwn, IsServed, keyspace_after, le-ltb, LinkRefines, lt-ltb, MAX_BODY_BYTES, may_happen, Memory, Moves, NearOnly, next_standby, Node, nodes_run, NodesRefine, opened_link, opened_to, Opening, OpeningLeads, option_items, Pair, PairRefines, PartsRefine, past_of, play_all, Refusal, Resting, RestsAtFrameLimit, Role, runs, Sound, Span, StandbyRefines, StandbyStands, Step, Steps, Stream, Stretch, told, told_by, torn, Wire, with_acknowledged, with_link, with_standby, without_first, World}
 use Rattle.kv_types.specs.declared.change.Change.{Change}
-use Rattle.standby_stream.specs.Delta.{IsDelta}
 use Rattle.standby_stream.specs.Leading.{reaches_above}
 use Rattle.standby_stream.specs.Stream.{opened as opened_anew}
 use Rattle.machine.specs.declared.event.Event.TheVariants as events
-use Rattle.machine.specs.Event.{Standby as MachineStandby, acknowledged_of, due_delta, due_from, opened_link, opened_to}
+use Rattle.machine.specs.Event.{Standby as MachineStandby}
 use Rattle.world.proofs.AroundLemmas.{around-stands, around-standby}
 use Rattle.world.proofs.LivesLemmas.{Runs, enabled-is, lives-like, nodes-refine, not-crashed, not-over, running-as, serving, taken-life, taken-role, not-still, stopped-still}
-use Rattle.world.specs.Cause.{Stretch, Breaks, RestsAtFrameLimit, EndsBy, Resting}
-use Rattle.world.specs.Committing.{NearOnly, Moves, next_standby}
-use Rattle.follower.specs.Following.{HasFollower}
-use Rattle.world.specs.Link.{IsFrameOf, IsOwn, AreFramesOf, LinkRefines, AreFramesSent}
-use Rattle.world.specs.Recalling.{OpeningLeads, past_of}
-use Rattle.follower.specs.Standby.{Arrived, Node, StandbyStands, StandbyRefines, ArrivalsRefine, AppliesFirst, told_by}
-use Rattle.world.specs.Pair.{Pair, EitherRefines, NodesRefine, PartsRefine, PairRefines, Steps, Acts, Does, Wire, AroundRefines}
 use Rattle.follower.proofs.FrameLemmas.{length-sent}
 use Rattle.world.proofs.PairLemmas.{Led, cut-for, cut-same, goes-either, goes-map, goes-steps, rests-primary, tells, moves-standby, does-step, steps-to, steps-none, steps-only, cut-only}
 use Rattle.world.proofs.PairLink.{link-alone}
 use Rattle.world.proofs.RecallLemmas.{opening-on, recalled-on, remembered-on}
-use Rattle.follower.specs.Condition.{has_ended, runs}
-use Rattle.follower.specs.declared.condition.Condition.{Condition}
 use Rattle.world.proofs.RemainLemmas.{near-from, left-later}
 
 -- ---- the standby
@@ -61,7 +50,7 @@ standby-either first second old arrivals node condition w machine told whole lat
             ),
           )
       | inr (inl down) ↦ inr (inl (down.0, search (rules, around, down.1, recalled-on low machine.position p past down.1.image.contents later down.1.recalls)))
-      | inr (inr still) ↦ inr (inr (still.0, record { around = around; lines_are = still.1.lines_are; left = λ image is. left-later first w w' image refl later (still.1.left image is) }))
+      | inr (inr still) ↦ inr (inr (still.0, record { around = around; lines_are = still.1.lines_are; left = λ image is. left-later first w machine w'.wire image later (still.1.left image is) }))
     ]
 
 -- all that is on the wire is of the pair's epoch

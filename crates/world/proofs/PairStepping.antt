@@ -1,12 +1,7 @@
 -- What the committer's step does to the pair, whichever is due.
 use Rattle.std.proofs.Common.{◌≡◌, ◌≢◌, ℕ, Bool, true, false, ◌&&◌, List, [], ◌++◌, Result, Ok, Err, inl, inr, refl, sym, ap, subst, ◌∙◌, true≢false, append-nil}
-use Rattle.world.specs.Words.{Committer, Contents, Done, Due, due_now, Freed, Group, Memory, notices_of, Refusal, State, Waiting, Work}
+use Rattle.world.proofs.Words.{AcksBy, Committer, Contents, Does, Done, Due, due_now, Effect, event_of, FramesBy, Freed, frees_places, Group, hands-beside, has_begun, Leaves, link_has_room, Memory, notices_of, Pair, Refusal, State, touches_primary, Waiting, Work}
 use Rattle.group_commit.specs.declared.due.Due.TheVariants as due
-use Rattle.group_commit.proofs.TurnLemmas.{hands-beside}
-use Rattle.world.specs.Committing.{event_of, frees_places, link_has_room}
-use Rattle.world.specs.Effect.{Effect}
-use Rattle.world.specs.Pair.{Does, Pair}
-use Rattle.world.specs.Step.{AcksBy, FramesBy, Leaves, has_begun, touches_primary}
 use Rattle.world.proofs.PairTurns.{Took, link_room, pair_of, pair_with, commit-does, commit-stays, hand-does-so, hand-leaves, hand-stays, raise-does-so, raise-leaves, raise-stays, went}
 use Rattle.world.proofs.PairClearing.{clear-done, clear-ends, clear-idle, clear-roomless}
 use Rattle.world.proofs.PairFreeing.{free-done, free-ends, free-idle, free-roomless}

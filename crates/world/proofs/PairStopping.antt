@@ -1,18 +1,11 @@
 -- The primary stops where a fence fails in an event, as it was asked to.
 use Rattle.std.proofs.Common.{rules, ◌≡◌, ℕ, Vec, Global, Bool, true, false, ◌&&◌, List, [], ◌++◌, Result, Ok, Err, IfErr, inl, inr, refl, sym, ap, subst, ◌∙◌, true≢false}
-use Rattle.world.specs.Words.{Allowed, Cut, Due, Event, Fault, halted, Happens, Holder, Image, is_between, is_crashed, is_enabled, is_stopped, left_by, may_cut, Refusal, Remains, Step, torn, touches, World}
-use Rattle.world.proofs.Words.{LeavesOnly-weaken}
+use Rattle.world.proofs.Words.{AcksBy, Allowed, allowed, AreLives, BreaksPrimary, call_of, Cut, cut_of, Due, Event, event_of, Fault, FramesBy, halted, Happens, HasWorld, Holder, Image, is_between, is_crashed, is_enabled, is_stopped, IsStep, LeavesOnly-weaken, left_by, LeftBy, may_cut, NodesRefine, OpensNear, Pair, Refusal, Remains, Step, Steps, StillRefine, takes_part, torn, touches, World}
 use Rattle.group_commit.specs.declared.due.Due.TheVariants as due
 use Rattle.machine.specs.declared.event.Cut.TheVariants as cut
 use Rattle.machine.specs.declared.event.Event.TheVariants as events
 use Rattle.machine.specs.declared.event.Node.TheVariants as node
 use Rattle.machine.specs.Event as machine
-use Rattle.world.specs.Committing.{event_of}
-use Rattle.world.specs.Cutting.{cut_of}
-use Rattle.world.specs.Pair.{AreLives, HasWorld, NodesRefine, Pair, Steps, StillRefine, allowed, takes_part}
-use Rattle.world.specs.Remaining.{LeftBy, OpensNear}
-use Rattle.world.specs.Step.{AcksBy, FramesBy, IsStep}
-use Rattle.world.specs.Stopping.{BreaksPrimary, call_of}
 use Rattle.follower.specs.declared.condition.Condition.TheVariants as conditions
 use Rattle.world.proofs.DeviceLemmas.{on-stop}
 use Rattle.world.proofs.LivesLemmas.{stopped-as}
@@ -44,11 +37,7 @@ step-breaks-in step inside = absurd (true≢false inside)
 -- the primary takes part in it alone
 pub step-takes : (step : Due) (primary_runs standby_runs : Bool) → takes_part primary_runs standby_runs (event_of step) ≡ primary_runs
 step-takes due.Commit primary_runs standby_runs = refl
-step-takes due.Raise primary_runs standby_runs = refl
-step-takes due.Hand primary_runs standby_runs = refl
-step-takes due.Free primary_runs standby_runs = refl
-step-takes due.Clear primary_runs standby_runs = refl
-step-takes due.Nothing primary_runs standby_runs = refl
+step-takes step primary_runs standby_runs = refl
 
 pub opening-breaks-in : BreaksIn (events.Reopen node.Primary) cut.Reopen
 opening-breaks-in = record {

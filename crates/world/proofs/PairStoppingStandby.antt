@@ -1,17 +1,10 @@
 -- A fence of the standby's device failed in a call of it: what the call left, and that the standby stops where that was asked for.
 use Rattle.std.proofs.Common.{◌≡◌, inl, inr, ℕ, true, false, ◌&&◌, cond, List, [], Ok, Vec, Global, refl, sym, ap, subst, ◌∙◌, true≢false, le_refl, ◌<◌, Bool, ◌∷◌, Result, Err, IfErr, ap₂}
-use Rattle.world.specs.Words.{Allowed, Apply, AsPrimary, At, Contents, Event, Fault, halted, Happens, Holder, is_crashed, is_enabled, is_follower, is_retired, is_running, is_stopped, LeavesOnly, left_by, may_cut, may_happen, Promote, Refusal, Remains, Reopen, Sequencing, Sound, State, Step, torn, touches, World}
-use Rattle.world.proofs.Words.{and_parts, LeavesOnly-weaken}
+use Rattle.world.proofs.Words.{AcksBy, Allowed, and_parts, Apply, AreLives, ArrivalsRefine, Arrived, AsPrimary, At, Breaks, BreaksPromotion, BreaksStandby, call_of, Committing, Condition, Contents, EitherRefines, EndsBy, Event, Fault, FramesBy, halted, Happens, has_crashed, has_ended, has_stopped, HasFollower, HasStandby, HasWorld, Holder, is_crashed, is_enabled, is_follower, is_retired, is_running, is_stopped, IsStep, KeepsOne, LeavesOnly, LeavesOnly-weaken, left_by, life_as, Lives, may_cut, may_happen, next_standby, Node, NodesRefine, OpensNear, Pair, Promote, Refusal, Remains, Reopen, Running, runs, Sequencing, Sound, StandbyRefines, StandbyStands, State, Step, Steps, StillRefine, Stopped, torn, touches, World}
 use Rattle.machine.specs.declared.event.Cut.TheVariants as cuts
 use Rattle.machine.specs.declared.event.Node.TheVariants as node
 use Rattle.machine.specs.Event.{Fails as MachineFails}
-use Rattle.follower.specs.Condition.{has_ended, has_stopped, life_as, has_crashed, runs}
-use Rattle.follower.specs.declared.condition.Condition.TheVariants.{Stopped, Running}
-use Rattle.world.specs.Pair.{AreLives, EitherRefines, HasStandby, HasWorld, NodesRefine, Pair, Steps, StillRefine, Lives}
-use Rattle.world.specs.Remaining.{KeepsOne, OpensNear}
-use Rattle.follower.specs.Standby.{Arrived, ArrivalsRefine, StandbyRefines, Node, StandbyStands}
-use Rattle.world.specs.Step.{AcksBy, FramesBy, IsStep}
-use Rattle.world.specs.Stopping.{BreaksPromotion, BreaksStandby, Fails, call_of}
+use Rattle.world.specs.Stopping.{Fails}
 use Rattle.world.proofs.AroundLemmas.{around-stands, around-standby, arrivals-lost}
 use Rattle.world.proofs.DeviceLemmas.{on-stop}
 use Rattle.world.proofs.LivesLemmas.{crashed-as, crashed-not-over, ended-still, not-over, retired-as, running-as, still-as, stopped-as}
@@ -20,10 +13,6 @@ use Rattle.world.proofs.PairStandby.{standby-either, with_standby_as, follower, 
 use Rattle.world.proofs.RemainLemmas.{keeps-near, left-later}
 use Rattle.world.proofs.StepLemmas.{stopped-is}
 use Rattle.world.proofs.StopLemmas.{StopsThere, stops-standby}
-use Rattle.world.specs.Cause.{Breaks, EndsBy}
-use Rattle.world.specs.Committing.{Committing, next_standby}
-use Rattle.follower.specs.Following.{HasFollower}
-use Rattle.follower.specs.declared.condition.Condition.{Condition}
 use Rattle.follower.proofs.KeptLemmas.{KeepsAsEither, keeps-either, keeps-here, keeps-left, restart-keeps}
 use Rattle.follower.proofs.OpenedLemmas.{StaysSo}
 use Rattle.world.proofs.PairReopen.{with_standby_node}
@@ -201,7 +190,7 @@ promotion-stops old mid arrivals flag breaks lost told has =
               (empty Promote stops-promoting old new lost acks breaks.fails breaks.lines_are asked refl refl first second w stands)
               (stopped Promote stops-promoting old new lost acks breaks.fails breaks.lines_are asked refl refl first second w stands);
           lines_are = still.lines_are;
-          left = λ image at. left-later first w w' image refl (le_refl w.standby.position) (still.left image at);
+          left = λ image at. left-later first w w'.standby w'.wire image (le_refl w.standby.position) (still.left image at);
         } in
         inr (inr (ended-still old.lives.primary over, refined))
 

@@ -1,27 +1,18 @@
 -- What the turns of the committer do to the pair: its own clauses refine the machine's events.
 use Rattle.std.proofs.Common.{rules, ◌≡◌, ◌⊎◌, ◌-◌, ◌≤◌, ℕ, Bool, true, false, nat_lt, List, length, min, Result, Ok, Err, inl, inr, refl, sym, ap, subst, ◌∙◌, arith, []}
-use Rattle.world.specs.Words.{committed_first, Committer, Contents, Done, Due, due_now, Durable, Event, Exhausts, Freed, FreeList, from_group, Group, Holder, LeavesOnly, MachineCommitter, may_happen, Memory, PIPE_ITEMS, Ready, Record, Refusal, Same, SequencerRefines, Shown, State, Waiting, with_committer, Work, World}
-use Rattle.world.proofs.Words.{cases_lt, group_lawful, le-ltb, LeavesOnly-weaken, lt-ltb}
-use Rattle.std.proofs.Math.Nat.{min-eq_left, min-le_left, min-le_right}
+use Rattle.world.proofs.Words.{cases_lt, committed_first, Committer, CommittingRefines, Contents, Does, Done, Due, due_now, Durable, EngineStands, Exhausts, Freed, FreeingRefines, FreeList, from_group, Group, group_lawful, hand-now, hands-beside, HandsFirst, Holder, le-ltb, LeavesOnly, LeavesOnly-weaken, LeftBy, link_has_room, lt-ltb, MachineCommitter, may_happen, Memory, min-eq_left, min-le_left, min-le_right, next_primary, Pair, PairRefines, PartsRefine, past_of, PIPE_ITEMS, raise-now, raised, Ready, Record, Refusal, RemembersFor, Same, SequencerRefines, serving_by, Shown, State, Steps, Waiting, with_committer, Work, World}
 use Rattle.std.specs.Coded.{le_prop}
 use Rattle.pipes.specs.declared.limits.TheConstants as limits
-use Rattle.group_commit.specs.Committing.{raised, ready_again}
-use Rattle.group_commit.specs.Working.{HandsFirst, LacksRoom, Takes}
+use Rattle.group_commit.specs.Committing.{ready_again}
+use Rattle.group_commit.specs.Working.{LacksRoom, Takes}
 use Rattle.group_commit.specs.declared.due.Due.TheVariants as due
 use Rattle.group_commit.specs.declared.stage.Done.TheVariants.{Idle}
-use Rattle.group_commit.proofs.DueLemmas.{hand-now, raise-now}
-use Rattle.group_commit.proofs.TurnLemmas.{hands-beside}
 use Rattle.machine.specs.declared.event.Cut.TheVariants as cut
 use Rattle.machine.specs.declared.event.Event.TheVariants as events
-use Rattle.world.specs.Committing.{EngineStands, CommittingRefines, link_has_room, next_primary}
 use Rattle.world.proofs.FreeingLemmas.{primary-steps}
 use Rattle.world.proofs.RecallLemmas.{recalled-each}
-use Rattle.world.specs.Recalling.{RemembersFor, past_of}
-use Rattle.world.specs.Pair.{FreeingRefines, Pair, PartsRefine, PairRefines, Steps, Does}
-use Rattle.world.specs.Parts.{serving_by}
 use Rattle.world.proofs.CommittingLemmas.{Leads-committed, Remembers-committed, TakesLawful, commit-ends, commit-goes, commit-lands, commit-moments, hand-goes, hand-none, hand-room, made, made-lawful, none-shown, raise-goes, raise-none, takes-lawful}
 use Rattle.world.proofs.OneGroupLemmas.{Commits, TakesGroup, takes-one}
-use Rattle.world.specs.Remaining.{LeftBy}
 use Rattle.world.proofs.LeftLemmas.{left-next, left-running, left-still}
 use Rattle.world.proofs.LivesLemmas.{enabled-is, nodes-refine, own-runs, serving}
 use Rattle.world.proofs.PairLemmas.{Led, cut-for, cut-same, rests-standby, stays-does, tells, steps-only, cut-only}
@@ -346,9 +337,3 @@ module _ {E : Type 0} (device : E → State) (contents : E → Contents) (is_fau
       stays-does (pair_of before works waiting) events.Hand refl (λ first second w stands. hand-none w.primary.calls before.stage w.primary.committer.stage
       (λ groups shown. never (hand-now contents before works (link_has_room waiting.items) pair.wire.remote groups shown))
       stands.parts.committing.stage_is)
-
--- ---- what was answered of it
-
--- two names of one answer
-pub told-so : (old new : Pair) (event : Event) (result told : Result Bool Refusal) → result ≡ told → Does old event result new → Does old event told new
-told-so old new event result told same does = subst (λ (r : Result Bool Refusal). Does old event r new) same does

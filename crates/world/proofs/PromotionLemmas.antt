@@ -1,16 +1,12 @@
 -- The image of a standby that is promoted: what the calls that do so leave of it.
-use Rattle.std.proofs.Common.{◌≡◌, ◌⊎◌, inl, inr, ℕ, ◌+◌, ◌<◌, ◌≤◌, Bool, true, false, List, [], ◌∷◌, All, Vec, Global, refl, sym, ap, subst, ◌∙◌, arith, true≢false}
-use Rattle.world.specs.Words.{AreLawful, Call, Contents, COUNTER_LIMIT, Exhausted, ExhaustsPromotion, ExhaustsReopening, Fault, HasRecord, Holder, Image, image_of, IsBeforeOrPromoted, IsDurable, IsFrameWithin, IsImage, IsSettled, LeavesOnly, Memory, promoted_contents, Record, Refusal, Role, Same, Sent, State}
-use Rattle.world.proofs.Words.{All-head, All-tail, cases_lt, HasRecord-lines, LeavesOnly-then, LeavesOnly-weaken, none_leaves, Same-is}
+use Rattle.std.proofs.Common.{[], All, ap, arith, Bool, false, Global, inl, inr, List, refl, subst, sym, true, true≢false, Vec, ℕ, ◌+◌, ◌<◌, ◌∙◌, ◌∷◌, ◌≡◌, ◌≤◌, ◌⊎◌}
+use Rattle.world.proofs.Words.{All-head, All-tail, AreContentsAt, AreFramesSent, AreLawful, Call, cases_lt, Contents, COUNTER_LIMIT, EngineStands, Exhausted, ExhaustsPromotion, ExhaustsReopening, Fault, HasRecord-lines, Holder, Image, image_of, IsBeforeOrPromoted, IsDown, IsDurable, IsFrameWithin, IsImage, IsSettled, LeavesOnly, LeavesOnly-then, LeavesOnly-weaken, none_leaves, OpensAsEither, OpensAt, promoted_contents, promoted_holder, Promoting, Record, Refusal, Role, Same, Same-is, Sent, State}
 use Rattle.model.specs.declared.record.Role.TheVariants as role
 use Rattle.wbl_engine.proofs.PromotingLemmas.{consistent_promoted, lawful_promoted}
-use Rattle.world.specs.Cause.{Promoting}
-use Rattle.world.specs.Committing.{AreContentsAt, EngineStands, IsDown, OpensAsEither, OpensAt, promoted_holder}
-use Rattle.world.specs.Link.{AreFramesSent}
-use Rattle.follower.proofs.DownLemmas.{restart-moments, restart-refused, settled-image}
+use Rattle.follower.proofs.DownLemmas.{restart-moments}
 use Rattle.world.proofs.EngineLemmas.{Opens-engine}
-use Rattle.follower.proofs.KeptLemmas.{KeepsAsEither, engine-keeps, restart-promoted}
-use Rattle.follower.proofs.OpenedLemmas.{IsNotOpened, StaysSo}
+use Rattle.follower.proofs.KeptLemmas.{engine-keeps, KeepsAsEither, restart-promoted}
+use Rattle.follower.proofs.OpenedLemmas.{IsNotOpened, StaysSo, why-not-opened}
 use Rattle.world.proofs.RemainLemmas.{kept-opens}
 use Rattle.follower.proofs.RoleLemmas.{newcomer_follows, newcomer_or}
 
@@ -163,30 +159,18 @@ module _ (holder : Holder) (calls : List Call) (p : ℕ) (old between new : Stat
   -- the opening was refused
   pub not-opened-ends : (last : State) (refusal : Refusal) (next : ℕ) → IsNotOpened role.Primary new last refusal → Promoting refusal holder calls p next old last
   not-opened-ends last refusal next refused =
-      let down = down-promoted in
-      let leaves = opened-leaves last (restart-moments (promoted_holder holder) calls p new last down refused.moments) in
-      let memory : refusal ≡ Memory → last.failures ≡ new.failures → Promoting refusal holder calls p next old last =
-      λ is same. subst (λ (r : Refusal). Promoting r holder calls p next old last) (sym is) (record { leaves = leaves; failures = same ∙ same-failures }) in
-      elim refused.refused [
-        | inl fault ↦ subst (λ (r : Refusal). Promoting r holder calls p next old last) (sym fault) (record { leaves = leaves; failures = omega (arith, same-failures, refused.fault fault) })
-        | inr (inl is) ↦ memory is (refused.failures (λ fault. memory_no_fault (sym is ∙ fault)))
-        | inr (inr why) ↦ elim (restart-refused (promoted_holder holder) calls p new refusal down why.0) [
-          | inl is ↦ memory is (ap (λ (d : State). d.failures) why.1)
-          | inr full ↦
-              let record_is = full.1 in
-              subst (λ (r : Refusal). Promoting r holder calls p next old last) (sym full.0)
-              (record {
-                rests = record { leaves = leaves; failures = ap (λ (d : State). d.failures) why.1 ∙ same-failures };
-                current = record_is.0;
-                has_record = λ image is.
-                    subst (HasRecord holder.lines record_is.0) (sym (settled-image new.words image down.settled (subst (λ (d : State). IsImage d.words image) why.1 is))) record_is.1;
-                limit = inr (inr record_is.2);
-              })
-        ]
+      let leaves = opened-leaves last (restart-moments (promoted_holder holder) calls p new last down-promoted refused.moments) in
+      elim (why-not-opened (promoted_holder holder) calls p next new last refusal down-promoted refused) [
+        | inl fault ↦ subst (λ (r : Refusal). Promoting r holder calls p next old last) (sym fault.0) (record { leaves = leaves; failures = omega (arith, same-failures, fault.1.failures) })
+        | inr (inl memory) ↦ subst (λ (r : Refusal). Promoting r holder calls p next old last) (sym memory.0) (record { leaves = leaves; failures = memory.1.failures ∙ same-failures })
+        | inr (inr full) ↦ subst (λ (r : Refusal). Promoting r holder calls p next old last) (sym full.0)
+            (record {
+              rests = record { leaves = leaves; failures = full.1.rests.failures ∙ same-failures };
+              current = full.1.current;
+              has_record = full.1.has_record;
+              limit = inr (inr full.1.limit);
+            })
       ]
-    where
-      memory_no_fault : Memory ≡ Fault → ⊥
-      memory_no_fault is = cc
 
 -- the promotion itself was refused
 pub record WasNotPromoted (old new : State) (contents : Contents) (is_faulted : Bool) (refusal : Refusal) : Type 0 where

@@ -1,15 +1,9 @@
 -- What waits for the committer stands for what waits for the machine's: the same may happen next, and a turn may take it.
 use Rattle.std.proofs.Common.{◌≡◌, ℕ, Bool, true, false, not, ◌&&◌, cond, nat_lt, nat_le, List, [], ◌∷◌, ◌++◌, refl, sym, ap, ap₂, ◌∙◌}
-use Rattle.world.specs.Words.{AreGroupsOf, Call, ClearGap, Commit, Due, due_of, Durable, Free, FreeList, from_group, Group, has_room, is_nonempty, MachineStage, may_happen, PIPE_ITEMS, positions_of_lists, reached_lists, Ready, Shown, Span, Stage, Work, World}
-use Rattle.world.proofs.Words.{length-groups, map-append}
+use Rattle.world.proofs.Words.{AreGroupsOf, Call, ClearGap, Commit, Committing, CommittingRefines, Due, due_beside, due_of, Durable, first_is_within, Free, FreeList, from_group, Group, has_group, has_group-work, has_room, is_nonempty, is_ready, length-groups, link_has_room, lists-work, lists_of, MachineStage, map-append, may_happen, nonempty-work, PIPE_ITEMS, positions_of_lists, reached_lists, reached_now, Ready, Shown, Span, Stage, StageRefines, Work, World}
 use Rattle.model.specs.declared.work.Work.TheVariants as work
-use Rattle.group_commit.specs.Due.{due_beside, has_group}
-use Rattle.group_commit.specs.Group.{lists_of}
 use Rattle.group_commit.specs.declared.due.Due.TheVariants as due
-use Rattle.machine.specs.Event.{first_is_within, is_ready}
 use Rattle.machine.specs.World as machine_stage
-use Rattle.world.specs.Committing.{Committing, CommittingRefines, StageRefines, link_has_room, reached_now}
-use Rattle.node_steps.proofs.QueueLemmas.{has_group-work, lists-work, nonempty-work}
 
 -- ---- what is in it
 
@@ -85,29 +79,17 @@ clear-last (list ∷ aside) [] true gap remote = beside-none [] list (aside ++ [
 not-commit : (step : Due) → (step ≡ due.Commit → ⊥) → is_commit step ≡ false
 unfolding is_commit
 not-commit due.Commit never = absurd (never refl)
-not-commit due.Raise never = refl
-not-commit due.Hand never = refl
-not-commit due.Free never = refl
-not-commit due.Clear never = refl
-not-commit due.Nothing never = refl
+not-commit step never = refl
 
 not-free : (step : Due) → (step ≡ due.Free → ⊥) → is_free step ≡ false
 unfolding is_free
-not-free due.Commit never = refl
-not-free due.Raise never = refl
-not-free due.Hand never = refl
 not-free due.Free never = absurd (never refl)
-not-free due.Clear never = refl
-not-free due.Nothing never = refl
+not-free step never = refl
 
 not-clear : (step : Due) → (step ≡ due.Clear → ⊥) → is_clear step ≡ false
 unfolding is_clear
-not-clear due.Commit never = refl
-not-clear due.Raise never = refl
-not-clear due.Hand never = refl
-not-clear due.Free never = refl
 not-clear due.Clear never = absurd (never refl)
-not-clear due.Nothing never = refl
+not-clear step never = refl
 
 -- ---- what is due may happen, and nothing else of the committer's
 

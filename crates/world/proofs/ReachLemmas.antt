@@ -1,12 +1,6 @@
 -- A run from event to event: what becomes of both devices, by their numbers.
-use Rattle.world.specs.Words.{Apply, Event, Global, Holder, last_world, OpenLink, Promote, Refusal, Run, Send, State, World}
-use Rattle.world.proofs.Words.{retired-still}
+use Rattle.world.proofs.Words.{AcksBy, Apply, AreMoves, Event, first_device, FramesBy, Global, has_ended, HasRoom, HasWorld, Holder, IsCutAfter, IsStep, last_world, last_world-push, Moved, NodesRefine, OpenLink, Pair, Promote, Refusal, retired-still, Run, run-push, second_device, Send, StandsAfter, StandsIn, start, State, touches_standby, World}
 use Rattle.std.proofs.Common.{Vec, ◌≡◌, ℕ, if◌then◌else◌, Bool, List, [], ◌∷◌, ◌++◌, Ok, Err, refl, sym, ap, subst, ◌∙◌, inl, inr, true, false, true≢false}
-use Rattle.machine.proofs.RunLemmas.{last_world-push, run-push}
-use Rattle.follower.specs.Condition.{has_ended}
-use Rattle.world.specs.Headline.{AreMoves, IsCutAfter, Moved, StandsAfter, StandsIn, start}
-use Rattle.world.specs.Pair.{HasRoom, HasWorld, NodesRefine, Pair, first_device, second_device}
-use Rattle.world.specs.Step.{AcksBy, FramesBy, IsStep, touches_standby}
 use Rattle.world.proofs.StepLemmas.{cut-for-room}
 use Rattle.world.proofs.GoingLemmas.{ended-life, not-ended, untouched-if}
 

@@ -1,16 +1,9 @@
 -- What the image of a node may hold in which a fence failed: how it opens, and while the list grows or is cut.
-use Rattle.std.proofs.Common.{◌≡◌, inl, inr, ℕ, ◌≤◌, List, [], ◌∷◌, ◌++◌, append-nil, refl, sym, ap, subst, ◌∙◌, arith, le_refl}
-use Rattle.std.specs.Prelude.{All, Contains}
-use Rattle.world.specs.Words.{AsFollower, AsPrimary, At, Call, Contents, Cut, cut_at, Holder, Image, IsImage, IsStandbyLeft, left_by, may_remain, position_of, Remains, Role, State, torn, World}
-use Rattle.world.proofs.Words.{All-cons, AreContentsAt-grows, LeavesOnly-weaken}
-use Rattle.std.proofs.lemmas.List.Elements.{All-contains}
+use Rattle.std.proofs.Common.{◌≡◌, ◌⊎◌, inl, inr, ℕ, zero, suc, ◌<◌, ◌≤◌, List, [], ◌∷◌, ◌++◌, length, get_or, append-nil, refl, sym, ap, subst, ◌∙◌, arith, le_refl, rules}
+use Rattle.world.proofs.Words.{All, All-cons, All-contains, AreContentsAt-grows, AsFollower, AsPrimary, At, Call, Contains, Contents, Cut, cut_at, Holder, Image, IsImage, IsStandbyLeft, KeepsAs, KeepsAt, KeepsOne, LeavesOne, LeavesOnly-weaken, left_by, LeftBy, may_remain, Moves, MovesNear, Opens, OpensAs, OpensAsOne, OpensAt, OpensAtEither, OpensNear, OrLies, past_of, position_of, promoted_holder, Remain, Remains, Resting, Role, State, torn, World}
 use Rattle.machine.specs.declared.event.Cut.TheVariants as cut
 use Rattle.machine.specs.declared.event.Node.TheVariants as node
-use Rattle.machine.specs.Event.{Primary}
-use Rattle.world.specs.Cause.{OrLies, Resting}
-use Rattle.world.specs.Recalling.{RecallsFor, past_of}
-use Rattle.world.specs.Committing.{AreContentsAt, Moves, Opens, OpensAt, OpensAtEither, promoted_holder}
-use Rattle.world.specs.Remaining.{KeepsAs, KeepsAt, KeepsOne, LeavesOne, LeftBy, MovesNear, OpensAsOne, OpensNear, Remain}
+use Rattle.machine.specs.Event.{Standby, Wire}
 use Rattle.world.proofs.CutLemmas.{AreContentsAt-cut}
 use Rattle.world.proofs.EngineLemmas.{keeps-opens, rests-same}
 use Rattle.world.proofs.RecallLemmas.{recalled-on}
@@ -40,19 +33,10 @@ left-near holder w image left =
     subst (λ (others : List Remains). OpensNear holder w.primary.calls w.primary.committer.position others image) (append-nil (torn w.primary.life)) (left-opens holder w cut.Between image left)
 
 -- the standby went on meanwhile
-pub left-later : (holder : Holder) (w w' : World) (image : Image) → w'.primary ≡ w.primary → w.standby.position ≤ w'.standby.position → LeftBy holder w cut.Between image → LeftBy holder w' cut.Between image
-left-later holder w w' image same later left = record {
-  position = left.position;
-  one = subst (λ (x : Primary). Contains (At x.committer.position ∷ (torn x.life ++ [])) (At left.position)) (sym same) left.one;
-  rises = subst (λ (x : Primary). x.committer.position ≤ left.position) (sym same) left.rises;
-  within = subst (λ (x : Primary). left.position ≤ position_of x.calls) (sym same) left.within;
-  contents = left.contents;
-  contents_at = subst (λ (x : Primary). AreContentsAt holder x.calls left.position left.contents) (sym same) left.contents_at;
-  lawful = left.lawful;
-  keeps = left.keeps;
-  recalls = subst (λ (x : Primary). RecallsFor w'.standby.position left.position (past_of x.calls) left.contents) (sym same)
-      (recalled-on w.standby.position w'.standby.position left.position (past_of w.primary.calls) left.contents later left.recalls);
-}
+pub left-later : (holder : Holder) (w : World) (standby : Standby) (wire : Wire) (image : Image) → w.standby.position ≤ standby.position → LeftBy holder w cut.Between image
+    → LeftBy holder (record w { standby = standby; wire = wire }) cut.Between image
+left-later holder w standby wire image later left =
+    search (rules, recalled-on w.standby.position standby.position left.position (past_of w.primary.calls) left.contents later left.recalls, left)
 
 -- ---- of a device
 

@@ -1,24 +1,14 @@
 -- What is reported of a run at its end.
-use Rattle.world.specs.Words.{Call, EachPosition, Event, Exhausted, Fault, Global, Holder, Image, IsPromised, IsReleased, last_world, LeavesOnly, Limit, Memory, new_holder, Node, OneStamp, Primary, Promote, Refusal, released_in, released_of, Reopening, row, Run, Standby, State, torn, Transcript, World}
-use Rattle.world.proofs.Words.{LeavesOnly-weaken, sound-start}
+use Rattle.world.proofs.Words.{allowed, AreMoments, at_the_end, AtEvent, AtFormatting, AtLimit, Breaks, Call, Devices, devices_in, devices_of, each, EachPosition, EarlyEnd, Ending, EndsAs, EndsBy, Event, Exhausted, Fault, first_device, FormattingOnly, Given, given_by, given_in, Global, has_ended, HasSent, HasStandby, History, Holder, Image, in_event, in_promotion, IsCutAfter, IsKept, IsPlayed, IsPromised, IsReleased, KeepsItsWord, last_world, LeavesOnly, LeavesOnly-weaken, Limit, Memory, NearOnly, new_holder, next_primary, next_standby, node_on, OneStamp, OpensAsEither, OpensAtEither, OpensFrom, OpensFromEither, OrLies, Pair, Plays, PlaysOn, Primary, primary_holder, primary_position, Promote, promoted_holder, Promoting, Reaches, ReachesLimit, Refusal, released-stays, released_in, released_of, Remain, Reopening, Resting, row, Run, second_device, sound-start, Standby, standby_holder, standby_position, StandsAfter, StandsIn, start, State, Stretch, Tells, ToldAs, torn, Transcript, UnformedBy, World}
+use Rattle.world.specs.Words.{Node}
 use Rattle.std.proofs.Common.{Vec, ◌≡◌, ◌⊎◌, ℕ, ◌≤◌, if◌then◌else◌, Bool, List, [], length, take, slice_index_or, Option, Some, None, refl, sym, ap, subst, ◌∙◌, arith, le_refl, inl, inr, true, false}
 use Rattle.machine.specs.declared.event.Node.TheVariants as node
-use Rattle.machine.specs.Promise.{Tells}
-use Rattle.machine.proofs.GrowLemmas.{released-stays}
 use Rattle.machine.proofs.CoverLemmas.{covered-run}
 use Rattle.machine.proofs.EveryRun.{promised-told}
-use Rattle.world.specs.Cause.{At, AtLimit, Breaks, EndsBy, Fails, OrLies, Promoting, ReachesLimit, Resting, Stretch, UnformedBy}
-use Rattle.world.specs.Committing.{FormattingOnly, NearOnly, OpensAsEither, OpensAtEither, next_primary, next_standby, promoted_holder}
-use Rattle.world.specs.Remaining.{Remain}
-use Rattle.world.specs.declared.trace.EarlyEnd.{EarlyEnd}
-use Rattle.world.specs.declared.trace.EarlyEnd.TheVariants.{AtFormatting, AtEvent}
-use Rattle.world.specs.Headline.{AreMoments, Devices, Ending, EndsAs, Given, HasSent, IsCutAfter, IsKept, IsPlayed, KeepsItsWord, OpensFrom, OpensFromEither, Plays, PlaysOn, Reaches, StandsAfter, StandsIn, at_the_end, devices_in, devices_of, each, given_by, given_in, in_event, in_promotion, node_on, primary_holder, primary_position, standby_holder, standby_position, start}
-use Rattle.world.specs.Pair.{ToldAs, HasStandby, Pair, allowed, first_device, second_device}
-use Rattle.world.specs.declared.history.History.{History}
+use Rattle.world.specs.Cause.{At, Fails}
 use Rattle.world.proofs.StepLemmas.{messages-sent}
 use Rattle.world.proofs.PairLemmas.{primary-stands, rests-primary, rests-standby, told-as}
 use Rattle.world.proofs.RemainLemmas.{lies-still}
-use Rattle.follower.specs.Condition.{has_ended}
 use Rattle.world.proofs.MomentLemmas.{IsFinal, moments-from}
 use Rattle.world.proofs.GoingLemmas.{place, placed, primary-holds, standby-holds}
 

@@ -1,22 +1,14 @@
 -- From what an event did to a pair to what can be told of it.
 use Rattle.std.proofs.Common.{◌≡◌, ◌⊎◌, ℕ, ◌<◌, Vec, Global, ◌++◌, Bool, true, false, true≢false, ◌&&◌, not, nat_lt, List, Result, Ok, Err, length, map, if◌then◌else◌, refl, sym, ap, ap₂, subst, ◌∙◌, arith, inl, inr, rules}
-use Rattle.world.specs.Words.{AddsOne, Allowed, Apply, Copying, Crash, Event, FailFence, Holder, Newcomer, OpenLink, PinCopy, Promote, Refusal, released_of, Reopen, Send, SendCopy, touches, Transcript, Turn, vec_capacity, World}
-use Rattle.world.proofs.Words.{le-ltb, released-held, released-told}
+use Rattle.world.proofs.Words.{AcksBy, Acts, AddsOne, Allowed, Apply, AreFramesSent, CallsBy, Copying, Crash, Does, Effect, Event, FailFence, first_device, FramesBy, GoesOn, Happened, has_begun, has_ended, HasRoom, HasSent, HasStandby, HasWorld, Holder, is_awaited, IsCut, IsPromotionCut, IsRoomier, IsStep, LacksRoom, le-ltb, Leaves, may_send_copy, Newcomer, NodesRefine, open_changes, OpenLink, Pair, PairRefines, PinCopy, Promote, Promotes, Refusal, released-held, released-told, released_by, released_of, Reopen, runs, Send, SendCopy, StandsIn, start, Steps, Stops, takes_part, touches, Transcript, Turn, Turns, Untouched, vec_capacity, WasCut, World}
 use Rattle.machine.specs.declared.event.Node.TheVariants as node
-use Rattle.machine.specs.Event.{is_awaited, may_send_copy, open_changes}
-use Rattle.world.specs.Headline.{GoesOn, HasSent, StandsIn, start}
-use Rattle.world.specs.Link.{AreFramesSent}
-use Rattle.world.specs.Pair.{Acts, Does, HasRoom, HasStandby, HasWorld, IsCut, IsPromotionCut, NodesRefine, Pair, PairRefines, Promotes, Steps, first_device, takes_part}
-use Rattle.world.specs.Effect.{Effect}
-use Rattle.world.specs.Step.{AcksBy, CallsBy, FramesBy, Happened, IsRoomier, IsStep, LacksRoom, Leaves, Shows, Turns, Untouched, WasCut, has_begun, released_by}
-use Rattle.world.specs.Stopping.{Stops}
+use Rattle.world.specs.Step.{Shows}
 use Rattle.world.proofs.AroundLemmas.{around-stands}
 use Rattle.world.proofs.GivenLemmas.{calls-step, released-step}
 use Rattle.world.proofs.GoingLemmas.{goes-ahead, steps-on}
 use Rattle.world.proofs.LivesLemmas.{nodes-refine, serves-as}
 use Rattle.world.proofs.PairLemmas.{primary-stands, roomier-stands, standby-stands, stays-does}
 use Rattle.world.proofs.PairLives.{idle-step, own-acts}
-use Rattle.follower.specs.Condition.{has_ended, runs}
 
 -- ---- what can be seen
 

@@ -1,11 +1,10 @@
 -- What a step of the machine says of a node that stops in it, or that had stopped before.
 use Rattle.std.proofs.Common.{◌≡◌, ◌⊎◌, true, false, [], refl, sym, ap, ◌∙◌, inl, inr, true≢false}
-use Rattle.world.specs.Words.{Applies, Apply, AsFollower, AsPrimary, At, ClearGap, Commit, Crash, crashed, Cut, Event, FailFence, Fails, Free, Happens, is_crashed, is_running, is_stopped, left_by, Life, life_of, may_happen, Node, nodes_run, position_at, Promote, Remains, Reopen, Sound, Step, torn, touches, without_first, World}
-use Rattle.world.proofs.Words.{and_parts, IsAt, remains-primary}
+use Rattle.world.proofs.Words.{and_parts, Applies, Apply, AsFollower, AsPrimary, At, call_of, ClearGap, Commit, Crash, crashed, Cut, Event, FailFence, Fails, Free, Happens, is_crashed, is_running, is_stopped, IsAt, left_by, Life, life_of, may_happen, nodes_run, position_at, Promote, Remains, remains-primary, Reopen, Sound, Step, torn, touches, without_first, World}
+use Rattle.world.specs.Words.{Node}
 use Rattle.machine.specs.declared.event.Cut.TheVariants as cut
 use Rattle.machine.specs.declared.event.Node.TheVariants as node
 use Rattle.machine.specs.Event.{Crashed, Running, Stopped}
-use Rattle.world.specs.Stopping.{call_of}
 use Rattle.world.proofs.LivesLemmas.{taken-life}
 
 -- ---- lives

@@ -1,10 +1,9 @@
 -- How the committer and its engine refine the machine's.
 use Rattle.std.specs.Prelude.{◌≡◌, ◌⊎◌, ℕ, ◌≤◌, Bool, true, false, nat_lt, List, [], ◌∷◌, length}
-use Rattle.world.specs.Words.{AreGroupsOf, AreWorkOf, Call, Due, Durable, Event, FreeList, Group, Holder, Image, IsFormatting, LeavesOnly, MachineCommitter, MachineStage, positions_of_lists, Ready, Shown, Stage, State, Waiting, Work}
+use Rattle.world.specs.Words.{AreGroupsOf, AreWorkOf, Call, Due, Durable, Event, FreeList, Group, Holder, Image, IsFormatting, LeavesOnly, MachineCommitter, MachineStage, positions_of_lists, reached_by, Ready, Shown, Stage, State, Waiting, Work}
 use Rattle.model.specs.declared.record.Role.{Role}
 use Rattle.model.specs.declared.record.TheConstants.{FIRST_EPOCH}
 use Rattle.pipes.specs.declared.limits.TheConstants.{PIPE_ITEMS}
-use Rattle.group_commit.specs.Due.{reached_by}
 use Rattle.group_commit.specs.declared.due.Due.TheVariants as due
 use Rattle.machine.specs.declared.event.Event.TheVariants as events
 use Rattle.machine.specs.World as machine_stage
@@ -17,9 +16,6 @@ pub use Rattle.primary.specs.Leading.{AreOfEpoch, Leads, entries_told, extents_t
 
 -- ---- the engine
 
--- each crash between these two states of a device leaves an image that opens at this position of the list, or at a later one
-abbrev pub FromOnly : Holder → List Call → ℕ → State → State → Type 0
-FromOnly holder calls position old new = LeavesOnly old new (λ image. (p : ℕ) × (position ≤ p) × OpensAt holder calls p image)
 
 -- the image opens at this position of the list, as that of this standby, or of the primary of the next epoch
 abbrev pub OpensAsEither : Holder → List Call → ℕ → Image → Type 0

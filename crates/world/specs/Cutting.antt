@@ -1,12 +1,12 @@
 -- A crash inside a call, or of a node that has stopped: which call it is, and what it leaves of a standby.
-use Rattle.std.specs.Prelude.{◌≡◌, ◌≢◌, ℕ, ◌≤◌, [], map, Option, None, Some}
-use Rattle.world.specs.Words.{AddsOne, Cut, cut_at, Due, HasSeat, image_of, IsUndamaged, left, MAX_LINES, MIN_LINES, Record, seats_of, State, World}
+use Rattle.std.specs.Prelude.{◌≡◌, ◌≢◌, ℕ, ◌≤◌, List, [], map, Option, None, Some}
+use Rattle.world.specs.Words.{AddsOne, Call, Connection, Cut, cut_at, Due, HasSeat, image_of, IsUndamaged, left, MAX_LINES, MIN_LINES, Record, seats_of, State, World}
 use Rattle.model.specs.declared.record.Role.TheVariants as Role
 use Rattle.group_commit.specs.declared.due.Due.TheVariants as due
 use Rattle.machine.specs.declared.event.Cut.TheVariants as cut
 use Rattle.follower.specs.declared.condition.Condition.TheVariants as conditions
 pub use Rattle.world.specs.Remaining.{OpensAs, OpensAsOne, OpensNear}
-use Rattle.world.specs.Pair.{ClientsRefine, Pair}
+use Rattle.world.specs.Pair.{Clients, ClientsRefine, Pair}
 
 -- ---- the call
 
@@ -16,6 +16,21 @@ cut_of due.Commit = cut.Commit
 cut_of due.Free = cut.Free
 cut_of due.Clear = cut.ClearGap
 cut_of step = cut.Between
+
+-- ---- a primary
+
+-- The clients' connections ended, and the list keeps the calls up to where the image stands.
+abbrev pub EndsThere : State → Clients → Clients → Type 0
+EndsThere device old new =
+    (r : Record) → MIN_LINES ≤ device.lines → device.lines ≤ MAX_LINES → IsUndamaged device.lines r (image_of device.words) → (machines : List Connection) (list : List Call) → ClientsRefine old machines list
+    → ClientsRefine new (map left machines) (cut_at list r.position)
+
+-- Of the primary there is its image, which tells up to where the list keeps the calls.
+pub record Falls (old new : Pair) : Type 0 where
+  pub ends : EndsThere old.primary.device old.clients new.clients
+  pub unseated : (c seat : ℕ) → HasSeat (seats_of new.clients.sessions.connections.items) c seat → ⊥
+  pub calls : AddsOne old.clients.transcript.calls new.clients.transcript.calls
+  pub rest : new ≡ record old { clients = new.clients; lives = record old.lives { primary = conditions.Crashed } }
 
 -- ---- a standby goes by its image
 

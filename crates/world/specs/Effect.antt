@@ -1,12 +1,12 @@
 -- What an event has to do beside its step of the machine: to what has ended and to what tells of it, to a frame, to an image that crashes or is opened again, and to a
 -- device that is asked to fail.
-use Rattle.std.specs.Prelude.{◌≡◌, ℕ, ◌+◌, ◌==◌, if◌then◌else◌, Bool, List, [], ◌∷◌, ◌++◌, Some, None, Result}
-use Rattle.world.specs.Words.{Apply, ClearGap, Clears, CloseGroup, ClosesOne, Contents, Crash, Cut, Event, FailFence, floor_raised, Free, Freed, FreeList, image_of, IsOver, IsReopened, Refusal, Reopen, Same, Sequencing, State, TakesBack}
+use Rattle.std.specs.Prelude.{◌≡◌, ◌⊎◌, ℕ, ◌+◌, ◌==◌, if◌then◌else◌, Bool, true, false, List, [], ◌∷◌, ◌++◌, Some, None, Vec, Result, Ok}
+use Rattle.world.specs.Words.{AcceptFreed, Apply, ClearGap, Clears, CloseGroup, ClosesOne, Contents, Crash, Cut, Event, extents_of, FailFence, floor_raised, Frame, Free, Freed, FreeList, Global, HasPassed, image_of, IsImage, IsOver, IsReopened, IsSettled, IsTakenNext, moment, newest_at, NoGapIsLeft, picked, Refusal, Reopen, Same, Sequencing, State, TakesBack, words_to_crash}
 use Rattle.pmem.specs.Device.Fences.{Sure}
 use Rattle.model.specs.declared.record.Role.TheVariants as Role
-use Rattle.wbl_engine.specs.Freeing.{after_free, extents_of}
+use Rattle.placing.specs.Place.{HasRoomFor}
+use Rattle.wbl_engine.specs.Freeing.{after_free}
 use Rattle.machine.specs.declared.event.Cut.TheVariants as cut
-use Rattle.machine.specs.declared.event.Event.TheVariants.{AcceptFreed}
 use Rattle.machine.specs.declared.event.Node.TheVariants as node
 use Rattle.world.specs.Committing.{reached_now}
 use Rattle.world.specs.Pair.{Pair, second_device}

@@ -1,8 +1,7 @@
 -- The word that a run keeps: the promise, between any two events, and what a crash leaves of both images at any moment of the run.
 use Rattle.std.specs.Prelude.{◌≡◌, ◌⊎◌, ℕ, ◌≤◌, ◌&&◌, ◌||◌, nat_eq, if◌then◌else◌, Bool, true, false, List, [], ◌∷◌, ◌++◌, take, slice_get, slice_index_or, Option, Some, None, Vec}
-use Rattle.world.specs.Words.{AsFollower, AsPrimary, At, Call, cut_at, Event, Global, Holder, Image, is_enabled, IsPromised, IsReleased, last_world, LeavesOnly, life_of, Node, position_at, position_of, Primary, Promote, Refusal, released_in, released_of, Remains, Run, Standby, State, Step, torn, touches, World}
+use Rattle.world.specs.Words.{AsFollower, AsPrimary, At, Call, cut_at, Event, Global, Holder, Image, is_enabled, IsPromised, IsReleased, last_world, LeavesOnly, life_of, Node, position_at, position_of, Primary, Promote, Refusal, released_in, released_of, Remains, Run, Standby, start_with, State, Step, torn, touches, World}
 use Rattle.machine.specs.declared.event.Node.TheVariants as node
-use Rattle.machine.specs.Event.{start_with}
 use Rattle.world.specs.Committing.{OpensAt, FormattingOnly, next_primary, next_standby, promoted_holder}
 use Rattle.world.specs.Cause.{Stretch, OrLies, Promoting, Resting, UnformedBy, EndsBy}
 use Rattle.follower.specs.Condition.{has_ended}

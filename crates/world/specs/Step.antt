@@ -1,11 +1,9 @@
 -- What one event does to a pair of nodes: one step of the machine, with both devices before it and after it, and all that it gave to anyone.
 use Rattle.std.specs.Prelude.{◌≡◌, ◌⊎◌, ℕ, ◌<◌, ◌≤◌, ◌&&◌, nat_eq, Contains, if◌then◌else◌, Bool, true, false, List, [], ◌∷◌, ◌++◌, take, slice_index_or, Vec, vec_len, vec_capacity, Result, Ok, Err, IfOk, IfErr}
-use Rattle.world.specs.Words.{AddsOne, AsFollower, AsPrimary, At, Call, Connection, connection_of, Crash, cut_at, Event, Global, Holder, IsReleased, may_remain, Memory, position_of, Promote, Refusal, released_in, released_of, Remains, safe_position, Send, torn, touches, Transcript, Turn, World, Write}
-use Rattle.model.specs.Call.{MayReply, state_after}
+use Rattle.world.specs.Words.{AddsOne, Apply, AsFollower, AsPrimary, At, Call, Connection, connection_of, Crash, cut_at, Event, Global, Holder, IsReleased, may_remain, MayReply, Memory, OpenLink, position_of, Promote, Refusal, released_in, released_of, Remains, safe_position, Send, state_after, torn, touches, Transcript, TranscriptRefines, Turn, World, Write}
 use Rattle.machine.specs.declared.event.Node.TheVariants as node
-use Rattle.connections.specs.Session.{TranscriptRefines}
 use Rattle.follower.specs.Condition.{has_ended}
-pub use Rattle.follower.specs.Taking.{AcksBy, AddsMessage}
+pub use Rattle.world.specs.Effect.{AddsMessage}
 use Rattle.world.specs.Effect.{Effect}
 use Rattle.world.specs.Headline.{GoesOn, StandsIn}
 use Rattle.world.specs.Link.{AreAcksSent, AreFramesSent}

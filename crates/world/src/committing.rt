@@ -1,10 +1,8 @@
 //! The steps of a pair's committer.
 ghost use Rattle.std.specs.Prelude.{◌≡◌, ◌≢◌, ◌↔◌, ◌<◌, ◌++◌, [], true, false, IfErr, OnErr, OnOk};
 ghost use Rattle.std.specs.VecDeque.{deque_capacity, deque_len};
-ghost use Rattle.group_commit.specs.Due.{due_now};
+ghost use Rattle.world.specs.Words.{due_now, is_between, notices_of};
 ghost use Rattle.group_commit.specs.declared.due.Due.TheVariants as due;
-ghost use Rattle.machine.specs.Event.{is_between};
-ghost use Rattle.primary.specs.Standing.{notices_of};
 ghost use Rattle.world.specs.Committing.{event_of, frees_places, link_has_room};
 ghost use Rattle.follower.specs.Condition.{runs};
 ghost use Rattle.world.specs.Pair.{Does, HasWorld};

@@ -1,27 +1,21 @@
 //! A pair of new nodes, and what a pair leaves.
 ghost use Rattle.std.specs.Prelude.{◌≡◌, ℕ, ◌<◌, ◌≤◌, ◌↔◌, [], IsTrue, IfOk, IfErr, MatchResult, vec_capacity};
-ghost use Rattle.model.specs.Group.{Contents};
-ghost use Rattle.model.specs.Standing.{new_holder};
-ghost use Rattle.wbl_engine.specs.Contents.{IsNew};
-ghost use Rattle.redis_core.specs.Sequencing.{Expects, IsAheadOf};
+ghost use Rattle.world.specs.Words.{Contents, Expects, fresh_room, is_free_entry, is_free_line, IsAheadOf, IsNew, new_holder, new_stream, SequencerRefines, SessionsRefine};
 ghost use Rattle.world.specs.Cause.{UnformedBy};
 ghost use Rattle.world.specs.Committing.{FormattingOnly};
 ghost use Rattle.model.specs.declared.record.TheConstants.{FIRST_EPOCH};
-ghost use Rattle.standby_stream.specs.Stream.{new_stream};
 ghost use Rattle.follower.specs.Standby.{ArrivalsRefine, arrived_with};
 ghost use Rattle.world.specs.declared.history.History.{History};
 ghost use Rattle.world.specs.Headline.{start};
 ghost use Rattle.world.specs.Pair.{NodesRefine, first_device, second_device};
-ghost use Rattle.connections.specs.Session.{SessionsRefine, SequencerRefines};
-ghost use Rattle.extent_heap.specs.Room.{fresh_room, is_free_line, is_free_entry};
 ghost use Rattle.model.specs.declared.layout.TheConstants.{LAYOUT};
 ghost use Rattle.model.specs.Layout.{entries_of_lines, first_extent_line};
 
 use crate::asked_fences::AskedFences;
-use crate::crashing::new_link;
 use crate::history::History;
 use crate::link_pipe::LinkPipe;
 use crate::pair::{Pair, Stepper};
+use crate::reopening::new_link;
 use connections::Connections;
 use extent_heap::ExtentHeap;
 use failover::fence;

@@ -4,8 +4,7 @@
 mod asked_fences;
 mod committing;
 mod crashing;
-mod cutting;
-mod cutting_standby;
+mod crashing_standby;
 mod failing;
 mod fencing;
 mod form;
@@ -14,6 +13,7 @@ mod link_pipe;
 mod pair;
 mod playing;
 mod promoting;
+mod reopening;
 mod stopping;
 mod trace;
 

@@ -13,12 +13,11 @@ ghost use Rattle.world.specs.declared.history.History.{History};
 use crate::asked_fences::AskedFences;
 use crate::history::History;
 use crate::link_pipe::LinkPipe;
-use bytes::Bytes;
 use connections::Connections;
 use follower::{Arrivals, Condition, acknowledge, decode, pass};
 use group_commit::Due;
 use kv_types::{Refusal, Seen};
-use machine::{Cut, Event, Mark, Node};
+use machine::{Event, Mark};
 use mv_keyspace::Keyspace;
 use primary::{Primary, close};
 use standby::Standby;
@@ -88,10 +87,10 @@ impl<E: Restarting, K: Keyspace + Drop> Stepper for Pair<E, K> {
         }
         match event {
             Event::Enter => self.enter(history),
-            Event::Feed(c, piece) => self.feed(*c, piece),
-            Event::Offer(c) => self.offer(*c),
+            Event::Feed(c, piece) => self.sessions.feed(*c, piece),
+            Event::Offer(c) => self.sessions.offer(*c),
             Event::Turn(c) => self.turn(history, *c),
-            Event::CloseGroup => self.close_group(),
+            Event::CloseGroup => close(self.alloc, &mut self.primary.front, &mut self.primary.back),
             Event::Commit => self.step_or_stop(history, Due::Commit),
             Event::RaiseLocal => self.take_step(Due::Raise),
             Event::Hand => self.take_step(Due::Hand),
@@ -108,12 +107,12 @@ impl<E: Restarting, K: Keyspace + Drop> Stepper for Pair<E, K> {
             Event::Newcomer => Ok(false),
             Event::PinCopy => Ok(false),
             Event::SendCopy => Ok(false),
-            Event::Hold(c) => self.hold(history, *c),
+            Event::Hold(c) => self.sessions.hold(&history.transcript, *c),
             Event::Read(c, mark) => self.read(*c, *mark),
-            Event::Release(c) => self.release(*c),
-            Event::Write(c, n) => self.write(history, *c, *n),
-            Event::Leave(c) => self.leave(*c),
-            Event::Crash(node, call, k, picks) => self.crash_in(history, *node, *call, *k, picks),
+            Event::Release(c) => Ok(self.sessions.release(*c)),
+            Event::Write(c, n) => self.sessions.write(&mut history.transcript, *c, *n),
+            Event::Leave(c) => Ok(self.sessions.leave(*c, &mut self.primary.front)),
+            Event::Crash(node, call, k, picks) => Ok(self.crash(history, *node, *call, *k, picks)),
             Event::Reopen(node) => self.reopen_or_stop(history, *node),
             Event::FailFence(node, n) => Ok(self.fail_fence(*node, *n)),
             Event::Fence => Ok(self.fence()),
@@ -133,43 +132,11 @@ impl<E: Restarting, K: Keyspace + Drop> Pair<E, K> {
         )
     }
 
-    /// A node crashes between two events, or inside a call.
-    fn crash_in(
-        &mut self,
-        history: &mut History,
-        node: Node,
-        call: Cut,
-        k: u64,
-        picks: &Vec<u64>,
-    ) -> Result<bool, Refusal>
-        requires world { HasWorld (⟦<Pair<E, K> as Stepper>⟧.parts self.old history.old) }
-        ensures { IsStep (⟦<Pair<E, K> as Stepper>⟧.parts self.old history.old) (events.Crash node call k picks.now) result (⟦<Pair<E, K> as Stepper>⟧.parts self.new history.new) }
-    {
-        if call.is_between() {
-            return Ok(self.crash(history, node, picks));
-        }
-        Ok(self.cut(history, node, call, k, picks))
-    }
-
     fn enter(&mut self, history: &mut History) -> Result<bool, Refusal>
         ensures does { Does (⟦<Pair<E, K> as Stepper>⟧.parts self.old history.old) events.Enter result (⟦<Pair<E, K> as Stepper>⟧.parts self.new history.new) }
         ensures leaves { Leaves events.Enter result (⟦<Pair<E, K> as Stepper>⟧.parts self.old history.old) (⟦<Pair<E, K> as Stepper>⟧.parts self.new history.new) }
     {
         self.sessions.enter(self.alloc, &mut history.transcript, &mut self.primary.front)
-    }
-
-    fn feed(&mut self, c: u64, piece: &Bytes) -> Result<bool, Refusal>
-        ensures does { (history : History) → Does (⟦<Pair<E, K> as Stepper>⟧.parts self.old history) (events.Feed c piece.now) result (⟦<Pair<E, K> as Stepper>⟧.parts self.new history) }
-        ensures leaves { (history : History) → Leaves (events.Feed c piece.now) result (⟦<Pair<E, K> as Stepper>⟧.parts self.old history) (⟦<Pair<E, K> as Stepper>⟧.parts self.new history) }
-    {
-        self.sessions.feed(c, piece)
-    }
-
-    fn offer(&mut self, c: u64) -> Result<bool, Refusal>
-        ensures does { (history : History) → Does (⟦<Pair<E, K> as Stepper>⟧.parts self.old history) (events.Offer c) result (⟦<Pair<E, K> as Stepper>⟧.parts self.new history) }
-        ensures leaves { (history : History) → Leaves (events.Offer c) result (⟦<Pair<E, K> as Stepper>⟧.parts self.old history) (⟦<Pair<E, K> as Stepper>⟧.parts self.new history) }
-    {
-        self.sessions.offer(c)
     }
 
     /// Room is made for the call first.
@@ -180,13 +147,6 @@ impl<E: Restarting, K: Keyspace + Drop> Pair<E, K> {
         history.transcript.make_room()?;
         let (alloc, front) = (self.alloc, &mut self.primary.front);
         Ok(self.sessions.turn(alloc, &mut history.transcript, c, front))
-    }
-
-    fn close_group(&mut self) -> Result<bool, Refusal>
-        ensures does { (history : History) → Does (⟦<Pair<E, K> as Stepper>⟧.parts self.old history) events.CloseGroup result (⟦<Pair<E, K> as Stepper>⟧.parts self.new history) }
-        ensures leaves { (history : History) → Leaves events.CloseGroup result (⟦<Pair<E, K> as Stepper>⟧.parts self.old history) (⟦<Pair<E, K> as Stepper>⟧.parts self.new history) }
-    {
-        close(self.alloc, &mut self.primary.front, &mut self.primary.back)
     }
 
     fn accept_freed(&mut self) -> bool
@@ -284,13 +244,6 @@ impl<E: Restarting, K: Keyspace + Drop> Pair<E, K> {
         Ok(rises)
     }
 
-    fn hold(&mut self, history: &History, c: u64) -> Result<bool, Refusal>
-        ensures does { Does (⟦<Pair<E, K> as Stepper>⟧.parts self.old history.now) (events.Hold c) result (⟦<Pair<E, K> as Stepper>⟧.parts self.new history.now) }
-        ensures leaves { Leaves (events.Hold c) result (⟦<Pair<E, K> as Stepper>⟧.parts self.old history.now) (⟦<Pair<E, K> as Stepper>⟧.parts self.new history.now) }
-    {
-        self.sessions.hold(&history.transcript, c)
-    }
-
     fn read(&mut self, c: u64, mark: Mark) -> Result<bool, Refusal>
         ensures does { (history : History) → Does (⟦<Pair<E, K> as Stepper>⟧.parts self.old history) (events.Read c mark) result (⟦<Pair<E, K> as Stepper>⟧.parts self.new history) }
         ensures leaves { (history : History) → Leaves (events.Read c mark) result (⟦<Pair<E, K> as Stepper>⟧.parts self.old history) (⟦<Pair<E, K> as Stepper>⟧.parts self.new history) }
@@ -300,26 +253,5 @@ impl<E: Restarting, K: Keyspace + Drop> Pair<E, K> {
             remote: self.remote,
         };
         Ok(self.sessions.read(c, mark, marks))
-    }
-
-    fn release(&mut self, c: u64) -> Result<bool, Refusal>
-        ensures does { (history : History) → Does (⟦<Pair<E, K> as Stepper>⟧.parts self.old history) (events.Release c) result (⟦<Pair<E, K> as Stepper>⟧.parts self.new history) }
-        ensures leaves { (history : History) → Leaves (events.Release c) result (⟦<Pair<E, K> as Stepper>⟧.parts self.old history) (⟦<Pair<E, K> as Stepper>⟧.parts self.new history) }
-    {
-        Ok(self.sessions.release(c))
-    }
-
-    fn write(&mut self, history: &mut History, c: u64, n: u64) -> Result<bool, Refusal>
-        ensures does { Does (⟦<Pair<E, K> as Stepper>⟧.parts self.old history.old) (events.Write c n) result (⟦<Pair<E, K> as Stepper>⟧.parts self.new history.new) }
-        ensures leaves { Leaves (events.Write c n) result (⟦<Pair<E, K> as Stepper>⟧.parts self.old history.old) (⟦<Pair<E, K> as Stepper>⟧.parts self.new history.new) }
-    {
-        self.sessions.write(&mut history.transcript, c, n)
-    }
-
-    fn leave(&mut self, c: u64) -> Result<bool, Refusal>
-        ensures does { (history : History) → Does (⟦<Pair<E, K> as Stepper>⟧.parts self.old history) (events.Leave c) result (⟦<Pair<E, K> as Stepper>⟧.parts self.new history) }
-        ensures leaves { (history : History) → Leaves (events.Leave c) result (⟦<Pair<E, K> as Stepper>⟧.parts self.old history) (⟦<Pair<E, K> as Stepper>⟧.parts self.new history) }
-    {
-        Ok(self.sessions.leave(c, &mut self.primary.front))
     }
 }

@@ -1,9 +1,8 @@
 //! A run of any list of events over two devices.
 ghost use Rattle.std.specs.Prelude.{◌≡◌, ◌≤◌, ◌∷◌, [], List, length, vec_len, vec_capacity, Some};
-ghost use Rattle.connections.specs.Session.{released_of};
-ghost use Rattle.model.specs.Standing.{Holder};
+ghost use Rattle.world.specs.Words.{Holder, released_of};
 ghost use Rattle.world.specs.declared.trace.EarlyEnd.TheVariants.{AtFormatting};
-ghost use Rattle.world.specs.Headline.{KeepsItsWord, PlaysOn, Plays, devices_in, devices_of, given_by, start};
+ghost use Rattle.world.specs.Headline.{KeepsItsWord, Plays, devices_of, given_by, start};
 ghost use Rattle.world.specs.Pair.{NodesRefine};
 
 use crate::history::History;
@@ -11,7 +10,7 @@ use crate::pair::{Pair, Stepper};
 use crate::trace::{EarlyEnd, Trace};
 use kv_types::Refusal;
 use machine::Event;
-use mv_keyspace::{Keyspace, MvKeyspace};
+use mv_keyspace::MvKeyspace;
 use pmem::Crashing;
 use std::alloc::Global;
 use std::hash::RandomState;
@@ -94,7 +93,20 @@ fn play_over<P: Crashing>(
         events.len(),
         hash_builder,
     ) {
-        Ok((pair, history)) => play_on(pair, history, events, done),
+        Ok((pair, history)) => {
+            let mut pair = pair;
+            let mut history = history;
+            let mut done = done;
+            let ended = play(&mut pair, &mut history, events, &mut done);
+            let (primary, standby) = pair.into_devices();
+            Played {
+                history,
+                done,
+                ended,
+                primary,
+                standby,
+            }
+        }
         Err((refusal, primary, standby)) => nothing(alloc, refusal, primary, standby),
     }
 }
@@ -110,35 +122,6 @@ fn nothing<P>(alloc: Global, refusal: Refusal, primary: P, standby: P) -> Played
         history: History::none(alloc),
         done: Vec::new(alloc),
         ended: Some(EarlyEnd::AtFormatting(refusal)),
-        primary,
-        standby,
-    }
-}
-
-/// Plays the events over a pair.
-fn play_on<P: Crashing, K: Keyspace + Drop>(
-    pair: Pair<WblEngine<P>, K>,
-    history: History,
-    events: &[Event],
-    done: Vec<bool>,
-) -> Played<P>
-    requires none_done { done.items ≡ [] }
-    requires room { length events.now ≤ vec_capacity done }
-    requires room_calls { length events.now ≤ vec_capacity history.transcript.calls }
-    requires stands { (first : Holder) × (second : Holder) × NodesRefine first second (⟦<Pair<WblEngine<P>, K> as Stepper>⟧.parts pair history) start }
-    ensures { (first second : Holder) → NodesRefine first second (⟦<Pair<WblEngine<P>, K> as Stepper>⟧.parts pair history) start
-        → PlaysOn first second events.now result.ended (given_by result.done.items result.history)
-        (devices_in (⟦<Pair<WblEngine<P>, K> as Stepper>⟧.parts pair history)) (devices_of (P.state result.primary) (P.state result.standby)) }
-{
-    let mut pair = pair;
-    let mut history = history;
-    let mut done = done;
-    let ended = play(&mut pair, &mut history, events, &mut done);
-    let (primary, standby) = pair.into_devices();
-    Played {
-        history,
-        done,
-        ended,
         primary,
         standby,
     }

@@ -8,9 +8,9 @@ ghost use Rattle.world.specs.Stopping.{BreaksPromotion};
 ghost use Rattle.follower.specs.declared.condition.Condition.TheVariants as conditions;
 ghost use Rattle.world.specs.declared.history.History.{History};
 
-use crate::crashing::new_link;
 use crate::history::History;
 use crate::pair::{Pair, Stepper};
+use crate::reopening::new_link;
 use failover::{operator_fence, promote_image};
 use follower::Condition;
 use kv_types::Refusal;

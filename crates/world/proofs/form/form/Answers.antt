@@ -1,7 +1,5 @@
 use Rattle.std.proofs.Common.{refl, ap, sym, subst, ◌∙◌}
-use Rattle.world.specs.Words.{Primary, Refusal, Standby, Stream}
-use Rattle.world.proofs.Words.{HasAll}
-use Rattle.world.specs.Cause.{UnformedBy}
+use Rattle.world.proofs.Words.{HasAll, Primary, Refusal, Standby, Stream, UnformedBy}
 use Rattle.world.proofs.FormLemmas.{all-fresh, engine-new, formatted-size, formatting-none, new-own, pair-starts, standby-new, unformed-first, unformed-second}
 use Rattle.world.proofs.form.form.Goals as goal
 

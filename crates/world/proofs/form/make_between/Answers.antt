@@ -1,5 +1,5 @@
 use Rattle.std.proofs.Common.{ap, ◌∙◌}
-use Rattle.world.specs.Words.{Opening}
+use Rattle.world.proofs.Words.{Opening}
 use Rattle.world.proofs.form.make_between.Goals as goal
 
 pub returns-clause-sessions : goal.returns-clause-sessions

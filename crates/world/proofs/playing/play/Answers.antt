@@ -1,9 +1,5 @@
 use Rattle.std.proofs.Common.{rules, ◌≡◌, ◌≤◌, List, Some, slice_get, [], ◌∷◌, ◌++◌, length, take, sym, ap, subst, ◌∙◌, arith}
-use Rattle.std.proofs.lemmas.List.{take_more, take_all}
-use Rattle.world.specs.Words.{Event, Holder}
-use Rattle.world.proofs.Words.{slice_get-get_or}
-use Rattle.world.specs.Headline.{start, StandsAfter, IsCutAfter}
-use Rattle.world.specs.Pair.{HasRoom, Pair, NodesRefine}
+use Rattle.world.proofs.Words.{Event, HasRoom, Holder, IsCutAfter, NodesRefine, Pair, slice_get-get_or, StandsAfter, start, take_all, take_more}
 use Rattle.world.proofs.AroundLemmas.{around-stands}
 use Rattle.world.proofs.ReachLemmas.{reaches-start, reaches-world, reaches-next, reaches-cut}
 use Rattle.world.proofs.playing.play.Goals as goal

@@ -1,7 +1,5 @@
 use Rattle.std.proofs.Common.{◌≡◌, ◌≤◌, take, length, vec_len}
-use Rattle.world.specs.Words.{Holder, vec_capacity}
-use Rattle.world.specs.Pair.{NodesRefine}
-use Rattle.world.specs.Headline.{start, StandsAfter}
+use Rattle.world.proofs.Words.{Holder, NodesRefine, StandsAfter, start, vec_capacity}
 use Rattle.world.proofs.playing.play.Given as goal
 
 abbrev pub invariant-loop-event : goal.invariant-loop-event

@@ -1,9 +1,7 @@
 use Rattle.std.proofs.Common.{ap, subst, sym}
-use Rattle.world.specs.Words.{Primary, Standby, State}
-use Rattle.world.specs.Cause.{UnformedBy}
-use Rattle.world.specs.Committing.{FormattingOnly}
+use Rattle.world.proofs.Words.{FormattingOnly, Primary, Standby, State, UnformedBy}
 use Rattle.world.proofs.FormLemmas.{formatting-none}
-use Rattle.world.proofs.RunningLemmas.{keeps-played, keeps-unplayed}
+use Rattle.world.proofs.RunningLemmas.{keeps-played, keeps-unplayed, plays-on}
 use Rattle.world.proofs.playing.play_over.Goals as goal
 
 pub returns-in-Err : goal.returns-in-Err
@@ -18,7 +16,9 @@ returns-in-Err g c =
 pub returns-in-Ok-open : goal.returns-in-Ok-open
 returns-in-Ok-open g c =
     let formatting = c.in-Ok-open.ensures.moments in
-    keeps-played _ _ _ _ _ _ formatting.0 formatting.1 (c.play_on.ensures _ _ c.in-Ok-open.ensures.stands)
+    keeps-played _ _ _ _ _ _ formatting.0 formatting.1
+    (plays-on _ _ _ _ _ _ _ _ _ (c.into_devices-primary.ensures.primary c.play-ended.new.history) (c.into_devices-primary.ensures.standby c.play-ended.new.history)
+    (c.play-ended.ensures _ _ c.in-Ok-open.ensures.stands))
 
 pub returns-in-Err-open : goal.returns-in-Err-open
 returns-in-Err-open g c =

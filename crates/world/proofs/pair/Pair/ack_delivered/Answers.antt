@@ -1,6 +1,5 @@
 use Rattle.std.proofs.Common.{ℕ, ◌≤◌, ◌<◌, List, length, Err, Vec, Global, refl, sym, ap, subst, ◌∙◌}
-use Rattle.world.specs.Words.{Acknowledged, FrameFault, sent_of}
-use Rattle.world.proofs.Words.{err_from_is_err_and, ltb-true}
+use Rattle.world.proofs.Words.{Acknowledged, err_from_is_err_and, FrameFault, ltb-true, sent_of}
 use Rattle.standby_stream.specs.declared.outgoing.Outgoing.{Outgoing}
 use Rattle.follower.proofs.FrameLemmas.{found-there, reads_as_ack}
 use Rattle.world.proofs.PairLink.{ack-does, ack-cut, no-ack-does}

@@ -1,6 +1,5 @@
 use Rattle.std.proofs.Common.{refl}
-use Rattle.world.specs.Committing.{next_standby}
-use Rattle.follower.specs.Standby.{arrived_with, node_at}
+use Rattle.world.proofs.Words.{arrived_with, next_standby, node_at}
 use Rattle.follower.proofs.KeptLemmas.{near-kept}
 use Rattle.world.proofs.DeviceLemmas.{not-begun}
 use Rattle.world.proofs.PairStoppingStandby.{apply-breaks}

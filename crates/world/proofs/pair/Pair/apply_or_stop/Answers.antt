@@ -1,5 +1,5 @@
 use Rattle.std.proofs.Common.{refl}
-use Rattle.follower.specs.Standby.{arrived_with}
+use Rattle.world.proofs.Words.{arrived_with}
 use Rattle.world.proofs.PairStopping.{fault-breaks}
 use Rattle.world.proofs.PairStoppingStandby.{standby-stops, stops-applying}
 use Rattle.world.proofs.StepLemmas.{acts-is}

@@ -1,12 +1,14 @@
-use Rattle.std.proofs.Common.{refl, sym, ◌∙◌}
-use Rattle.world.proofs.StepLemmas.{acts-is}
+use Rattle.std.proofs.Common.{refl}
+use Rattle.machine.specs.declared.event.Cut.TheVariants as cut
+use Rattle.machine.specs.declared.event.Node.TheVariants as node
+use Rattle.world.proofs.PairCrash.{crash-idle}
 use Rattle.world.proofs.pair.Pair.crash_primary.Goals as goal
 
-pub crash_stopped_primary-requires-clause-stopped : goal.crash_stopped_primary-requires-clause-stopped
-crash_stopped_primary-requires-clause-stopped g c = sym c.has_stopped.ensures ∙ c.if-has_stopped.true
+pub returns-in-Between : goal.returns-in-Between
+returns-in-Between g c = rw c.in-Between.is (c.crash_between.ensures c.args.k)
 
-pub crash_running_primary-requires-clause-whole : goal.crash_running_primary-requires-clause-whole
-crash_running_primary-requires-clause-whole g c = sym c.has_stopped.ensures ∙ c.if-has_stopped.false
+pub returns-in-Apply : goal.returns-in-Apply
+returns-in-Apply g c = rw c.in-Apply.is (crash-idle _ node.Primary cut.Apply c.args.k c.args.picks.now (λ first second w stands. refl))
 
-pub returns : goal.returns
-returns g c = λ after. acts-is refl (c.crash_running_primary.ensures.does after) (c.crash_running_primary.ensures.leaves after)
+pub returns-in-Promote : goal.returns-in-Promote
+returns-in-Promote g c = rw c.in-Promote.is (crash-idle _ node.Primary cut.Promote c.args.k c.args.picks.now (λ first second w stands. refl))

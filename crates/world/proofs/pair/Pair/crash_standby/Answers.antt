@@ -1,12 +1,17 @@
-use Rattle.std.proofs.Common.{refl, sym, ◌∙◌}
-use Rattle.world.proofs.StepLemmas.{acts-is}
+use Rattle.std.proofs.Common.{refl}
+use Rattle.machine.specs.declared.event.Cut.TheVariants as cut
+use Rattle.machine.specs.declared.event.Node.TheVariants as node
+use Rattle.world.proofs.PairCrash.{crash-idle}
 use Rattle.world.proofs.pair.Pair.crash_standby.Goals as goal
 
-pub crash_stopped_standby-requires-clause-stopped : goal.crash_stopped_standby-requires-clause-stopped
-crash_stopped_standby-requires-clause-stopped g c = sym c.has_stopped.ensures ∙ c.if-has_stopped.true
+pub returns-in-Between : goal.returns-in-Between
+returns-in-Between g c = rw c.in-Between.is (c.crash_standby_between.ensures c.args.k)
 
-pub crash_running_standby-requires : goal.crash_running_standby-requires
-crash_running_standby-requires g c = record { whole = sym c.has_stopped.ensures ∙ c.if-has_stopped.false; world = (c.args.history.now, c.requires) }
+pub returns-in-Commit : goal.returns-in-Commit
+returns-in-Commit g c = rw c.in-Commit.is (crash-idle _ node.Standby cut.Commit c.args.k c.args.picks.now (λ first second w stands. refl))
 
-pub returns : goal.returns
-returns g c = λ after. acts-is refl (c.crash_running_standby.ensures.does c.args.history.now after) (c.crash_running_standby.ensures.leaves c.args.history.now after)
+pub returns-in-Free : goal.returns-in-Free
+returns-in-Free g c = rw c.in-Free.is (crash-idle _ node.Standby cut.Free c.args.k c.args.picks.now (λ first second w stands. refl))
+
+pub returns-in-ClearGap : goal.returns-in-ClearGap
+returns-in-ClearGap g c = rw c.in-ClearGap.is (crash-idle _ node.Standby cut.ClearGap c.args.k c.args.picks.now (λ first second w stands. refl))

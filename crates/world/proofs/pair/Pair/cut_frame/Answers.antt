@@ -1,13 +1,11 @@
 use Rattle.std.proofs.Common.{◌≡◌, ◌++◌, ◌∷◌, [], List, Option, refl, sym, ap, subst, ◌∙◌, arith}
-use Rattle.world.specs.Words.{At, Frame, LeavesOnly, option_to_list, Sent}
-use Rattle.world.proofs.Words.{eqb-false, eqb-true}
-use Rattle.follower.specs.Following.{next_from}
-use Rattle.follower.specs.Standby.{Node, arrived_with, node_at}
+use Rattle.world.proofs.Words.{arrived_with, At, eqb-false, eqb-true, Frame, KeepsOne, LeavesOnly, next_from, Node, node_at, option_to_list, Sent}
 use Rattle.world.proofs.AroundLemmas.{around-stands}
 use Rattle.follower.proofs.ArrivalLemmas.{first-frame}
-use Rattle.world.specs.Remaining.{KeepsOne}
+use Rattle.machine.specs.declared.event.Cut.TheVariants as cuts
 use Rattle.follower.proofs.KeptLemmas.{CrashedIn, crashed-in}
-use Rattle.world.proofs.PairCutStandby.{frame-cuts, frame-idle, frame-none}
+use Rattle.world.proofs.PairCutStandby.{frame-falls, frame-idle, frame-none}
+use Rattle.world.proofs.PairFallen.{goes-by-image}
 use Rattle.world.proofs.PairStandby.{follower}
 use Rattle.follower.proofs.StandbyLemmas.{StandbyStands-kept, frame-asked, frame-keeps, frame-lines}
 use Rattle.world.proofs.pair.Pair.cut_frame.Goals as goal
@@ -54,9 +52,8 @@ returns g c =
     crashed-in _ c.as_slice.ensures.value moved.keeps (frame-asked E.device E.contents E.is_faulted K.table frame kept mid c.on_frame.result c.on_frame.ensures) crashed.settled crashed.left crashed.picked crashed.lines crashed.moments in
     let lines = sym (sized mid.engine) ∙ frame-lines E.device E.contents E.is_faulted K.table frame kept mid c.on_frame.result c.on_frame.ensures ∙ ap (λ contents. contents.lines) moved.contents ∙ sized was.engine in
     let new_node : Node = node_at (E.device last.engine) (E.contents last.engine) (E.is_faulted last.engine) (K.table last.keyspace) last.heap last.ended.items in
-    rw c.fall_behind.ensures.falls
-    (frame-cuts _ (arrived_with c.fall_behind.new.self.arrivals c.args.history.now.acknowledgements) new_node (E.device kept.engine) (E.device mid.engine) c.args.k c.args.picks.now follows
-    (omega (arith, some, c.args.self.now.arrivals.delivered.ok.0)) c.fall_behind.ensures.lost refl is (sized was.engine) lines
+    goes-by-image _ _ new_node cuts.Apply c.args.k c.args.picks.now _ c.go_by_image.ensures refl
+    (frame-falls _ (E.device kept.engine) (E.device mid.engine) (E.device last.engine) c.args.k c.args.picks.now follows (omega (arith, some, c.args.self.now.arrivals.delivered.ok.0)) is (sized was.engine) lines
     (λ first second w stands.
     let epoch = c.args.self.now.outgoing.link.epoch in
     let stood = StandbyStands-kept second epoch w.primary.calls w.standby.position _

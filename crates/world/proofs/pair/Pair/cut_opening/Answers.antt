@@ -1,8 +1,7 @@
-use Rattle.std.proofs.Common.{map, refl, subst, sym, ◌∙◌}
-use Rattle.world.specs.Words.{cut_at, left, SessionsRefine}
+use Rattle.std.proofs.Common.{refl, sym, ◌∙◌}
 use Rattle.machine.specs.declared.event.Cut.TheVariants as cut
 use Rattle.follower.proofs.KeptLemmas.{CrashedIn, crashed-in}
-use Rattle.world.proofs.PairCut.{asked-settled, opening-cut-in, opening-stays, primary-cut}
+use Rattle.world.proofs.PairCut.{asked-settled, cut-drops, opening-cut-in, opening-stays, primary-falls}
 use Rattle.world.proofs.pair.Pair.cut_opening.Goals as goal
 
 pub returns-then-not-has_crashed : goal.returns-then-not-has_crashed
@@ -23,11 +22,8 @@ returns g c =
     let last = E.device c.restart.new.self.back.committer.engine in
     let crashed = c.crash_kept.ensures in
     let left_ = c.crash_kept.new.self in
-    let ended = c.crash.ensures in
     let off : CrashedIn c.args.k c.args.picks.now.items before kept last (E.device left_.committer.engine) =
     crashed-in _ c.as_slice.ensures.value asked.keeps came.asked_moment crashed.settled crashed.left crashed.picked crashed.lines crashed.moments in
-    primary-cut _ cut.Reopen c.args.k c.args.picks.now kept last _ _ refl off came.lines
-    (opening-cut-in _ _ kept (sym c.has_crashed.ensures ∙ c.if-not-has_crashed.false) asked.keeps last came.moments)
-    (λ r many few undamaged machines list stand.
-    subst (λ n. SessionsRefine c.crash.new.self c.crash.new.transcript (map left machines) (cut_at list n)) (c.image_position-position.ensures r many few undamaged) (ended.goes machines list stand))
-    ended.unseated c.requires.world ended.calls
+    primary-falls _ _ _ cut.Reopen c.args.k c.args.picks.now c.fall.ensures
+    (cut-drops _ cut.Reopen c.args.k c.args.picks.now kept last _ refl off came.lines
+    (opening-cut-in _ _ kept (sym c.has_crashed.ensures ∙ c.if-not-has_crashed.false) asked.keeps last came.moments) c.requires.world)

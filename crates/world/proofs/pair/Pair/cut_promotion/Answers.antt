@@ -1,8 +1,9 @@
 use Rattle.std.proofs.Common.{sym, ap, subst, ◌∙◌}
-use Rattle.world.specs.Words.{Contents, ExhaustsPromotion, IsBeforeOrPromoted, LeavesOnly}
-use Rattle.follower.specs.Standby.{Node, node_at}
+use Rattle.world.proofs.Words.{Contents, ExhaustsPromotion, IsBeforeOrPromoted, LeavesOnly, Node, node_at}
 use Rattle.follower.proofs.KeptLemmas.{CrashedIn, crashed-in}
-use Rattle.world.proofs.PairCutStandby.{promotion-cuts, promotion-idle, promotion-lines, promotion-unfenced}
+use Rattle.machine.specs.declared.event.Cut.TheVariants as cuts
+use Rattle.world.proofs.PairFallen.{goes-by-image}
+use Rattle.world.proofs.PairCutStandby.{promotion-falls, promotion-idle, promotion-lines, promotion-unfenced}
 use Rattle.world.proofs.pair.Pair.cut_promotion.Goals as goal
 
 pub returns-then-not-has_ended : goal.returns-then-not-has_ended
@@ -28,7 +29,8 @@ returns g c =
     let is : CrashedIn c.args.k c.args.picks.now.items (E.device was.engine) (E.device kept.engine) (E.device mid.engine) (E.device last.engine) =
     crashed-in _ c.as_slice.ensures.value moved.keeps told.asked_moment crashed.settled crashed.left crashed.picked crashed.lines crashed.moments in
     let new_node : Node = node_at (E.device last.engine) (E.contents last.engine) (E.is_faulted last.engine) (K.table last.keyspace) last.heap last.ended.items in
-    promotion-cuts _ new_node _ (E.device kept.engine) (E.device mid.engine) c.args.k c.args.picks.now
+    goes-by-image _ _ new_node cuts.Promote c.args.k c.args.picks.now _ c.go_by_image.ensures refl
+    (promotion-falls _ (E.device kept.engine) (E.device mid.engine) (E.device last.engine) c.args.k c.args.picks.now
     (record {
       fenced = sym c.has_ended.ensures ∙ c.if-not-has_ended.false;
       follows = sym c.is_running.ensures ∙ c.if-not-is_running.false;
@@ -44,4 +46,4 @@ returns g c =
           subst (λ (contents : Contents). LeavesOnly (E.device kept.engine) (E.device mid.engine) (IsBeforeOrPromoted contents)) moved.contents
           (told.moments (names ∙ sym (ap (λ (contents : Contents). contents.current.epoch) moved.contents)) (moved.faulted ∙ sound));
       any = c.requires.world;
-    }) c.go_by_image.ensures
+    }))

@@ -1,8 +1,8 @@
-use Rattle.std.proofs.Common.{map, subst, sym, ◌∙◌, true≢false}
-use Rattle.world.specs.Words.{cut_at, left, SessionsRefine}
-use Rattle.world.specs.Parts.{parts_of}
+use Rattle.std.proofs.Common.{sym, ◌∙◌, true≢false}
+use Rattle.world.proofs.Words.{cut_of, parts_of}
 use Rattle.follower.proofs.KeptLemmas.{CrashedIn, crashed-in}
-use Rattle.world.proofs.PairCutStep.{OnlyKeeps, asked-stands, cut-down, cut-not-due, step-cut}
+use Rattle.world.proofs.PairCut.{primary-falls}
+use Rattle.world.proofs.PairCutStep.{OnlyKeeps, asked-stands, cut-down, cut-not-due, step-drops}
 use Rattle.world.proofs.pair.Pair.cut_step.Goals as goal
 
 pub returns-then-not-is_running : goal.returns-then-not-is_running
@@ -40,15 +40,12 @@ returns g c =
     let after = c.commit.new.self in
     let crashed = c.crash_kept.ensures in
     let left_ = c.crash_kept.new.self in
-    let ended = c.crash.ensures in
     let up = sym c.is_running.ensures ∙ c.if-not-is_running.false in
     let is = c.is_due.ensures.0 c.if-not-is_due.false in
     let only : OnlyKeeps E.device E.contents E.is_faulted c.args.k before kept.committer =
     record { keeps = asked.keeps; contents_are = asked.contents; faulted = asked.faulted; stage = asked.stage; local = asked.local; aside = asked.aside } in
     let off : CrashedIn c.args.k c.args.picks.now.items (E.device before.engine) (E.device kept.committer.engine) (E.device after.committer.engine) (E.device left_.committer.engine) =
     crashed-in _ c.as_slice.ensures.value asked.keeps came.asked_moment crashed.settled crashed.left crashed.picked crashed.lines crashed.moments in
-    step-cut E.device E.contents E.is_faulted was c.args.k before kept.committer pair.primary.back.work kept.work pair.handed only asked.work
-    after.committer after.work c.commit.new.link c.commit.result c.args.step c.args.picks.now _ _ c.requires.inside up is came.takes sized off
-    (λ r many few undamaged machines list stand.
-    subst (λ n. SessionsRefine c.crash.new.self c.crash.new.transcript (map left machines) (cut_at list n)) (c.image_position-position.ensures r many few undamaged) (ended.goes machines list stand))
-    ended.unseated c.requires.world ended.calls
+    primary-falls _ _ _ (cut_of c.args.step) c.args.k c.args.picks.now c.fall.ensures
+    (step-drops E.device E.contents E.is_faulted was c.args.k before kept.committer pair.primary.back.work kept.work pair.handed only asked.work
+    after.committer after.work c.commit.new.link c.commit.result c.args.step c.args.picks.now _ c.requires.inside up is came.takes sized off c.requires.world)

@@ -1,5 +1,4 @@
-use Rattle.world.proofs.Words.{IfOk-weaker}
-use Rattle.follower.specs.Standby.{arrived_with}
+use Rattle.world.proofs.Words.{arrived_with, IfOk-weaker}
 use Rattle.world.proofs.PairStandby.{deliver-acts}
 use Rattle.world.proofs.pair.Pair.deliver.Goals as goal
 

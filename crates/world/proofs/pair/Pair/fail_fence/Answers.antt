@@ -1,4 +1,4 @@
-use Rattle.follower.specs.Condition.{runs}
+use Rattle.world.proofs.Words.{runs}
 use Rattle.world.proofs.PairFailing.{node-runs}
 use Rattle.world.proofs.pair.Pair.fail_fence.Goals as goal
 

@@ -1,7 +1,5 @@
 use Rattle.std.proofs.Common.{◌≡◌, Option, None, Some, refl, sym, ap, subst, ◌∙◌, true≢false}
-use Rattle.world.specs.Words.{Record}
-use Rattle.world.specs.Cutting.{ComesForward}
-use Rattle.world.specs.Pair.{Pair}
+use Rattle.world.proofs.Words.{ComesForward, Pair, Record}
 use Rattle.world.proofs.pair.Pair.go_by_image.Goals as goal
 
 none_some : (found : Option Record) (r : Record) → found ≡ None → found ≡ Some r → ⊥

@@ -1,7 +1,5 @@
 use Rattle.std.proofs.Common.{◌≤◌, ◌∙◌, ℕ, sym, subst}
-use Rattle.world.specs.Words.{IsServed}
-use Rattle.world.proofs.Words.{err_from_is_err_and}
-use Rattle.follower.specs.Standby.{arrived_with}
+use Rattle.world.proofs.Words.{arrived_with, err_from_is_err_and, IsServed}
 use Rattle.world.proofs.PairStandby.{Reopens, follower, open-does, open-cut, open-refused}
 use Rattle.world.proofs.pair.Pair.open_link.Goals as goal
 

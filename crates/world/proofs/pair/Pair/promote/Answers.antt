@@ -1,9 +1,6 @@
 use Rattle.std.proofs.Common.{◌≡◌, ◌<◌, Err, ap, inl, inr, refl, sym, subst, ◌∙◌}
-use Rattle.world.specs.Words.{Fault, Holder, image_of, IsOpening, LeavesOnly, Memory, new_stream, Opening, State, World}
-use Rattle.world.proofs.Words.{err_from_is_err_and}
+use Rattle.world.proofs.Words.{arrived_with, err_from_is_err_and, Fault, Holder, image_of, IsOpening, LeavesOnly, Memory, new_stream, Node, node_at, NodesRefine, Opening, State, World}
 use Rattle.model.specs.declared.record.Role.TheVariants as role
-use Rattle.world.specs.Pair.{NodesRefine}
-use Rattle.follower.specs.Standby.{Node, arrived_with, node_at}
 use Rattle.follower.proofs.KeptLemmas.{KeepsAsEither}
 use Rattle.follower.proofs.OpenedLemmas.{IsNotOpened, IsOpened}
 use Rattle.world.proofs.PairStoppingStandby.{promotion-breaks}

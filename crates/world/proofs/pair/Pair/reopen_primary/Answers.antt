@@ -1,6 +1,5 @@
 use Rattle.std.proofs.Common.{Err, ap, inl, inr, refl, sym, subst, ◌∙◌}
-use Rattle.world.specs.Words.{image_of, IsOpening, new_stream, Opening, Primary}
-use Rattle.world.proofs.Words.{err_from_is_err_and}
+use Rattle.world.proofs.Words.{err_from_is_err_and, image_of, IsOpening, new_stream, Opening, Primary}
 use Rattle.follower.proofs.OpenedLemmas.{IsNotOpened}
 use Rattle.world.proofs.PairCut.{opening-breaks}
 use Rattle.world.proofs.PairReopen.{primary-reopening-cut, primary-reopens, primary-runs-on}

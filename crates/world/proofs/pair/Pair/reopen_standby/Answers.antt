@@ -1,7 +1,5 @@
 use Rattle.std.proofs.Common.{Err, ap, inl, inr, refl, sym, subst, ◌∙◌}
-use Rattle.world.specs.Words.{Standby}
-use Rattle.world.proofs.Words.{err_from_is_err_and}
-use Rattle.follower.specs.Standby.{Node, node_at}
+use Rattle.world.proofs.Words.{err_from_is_err_and, Node, node_at, Standby}
 use Rattle.follower.proofs.OpenedLemmas.{IsNotOpened}
 use Rattle.world.proofs.PairStoppingStandby.{reopening-breaks}
 use Rattle.world.proofs.PairReopen.{standby-reopening-cut, standby-reopens, standby-runs-on}

@@ -1,6 +1,5 @@
 use Rattle.std.proofs.Common.{refl, ap, sym, ◌∙◌}
-use Rattle.world.specs.Words.{Stream}
-use Rattle.world.proofs.Words.{err_from_is_err_and}
+use Rattle.world.proofs.Words.{err_from_is_err_and, Stream}
 use Rattle.world.proofs.PairLink.{after-none, delta-cut, delta-does, tells-still}
 use Rattle.world.proofs.pair.Pair.send.Goals as goal
 

@@ -1,6 +1,5 @@
 use Rattle.std.proofs.Common.{◌≡◌, ◌∙◌, ℕ, true, Option, None, Some, Result, Ok, Err, ap, subst}
-use Rattle.world.specs.Words.{Memory, Refusal}
-use Rattle.world.proofs.Words.{err_from_is_err_and}
+use Rattle.world.proofs.Words.{err_from_is_err_and, Memory, Refusal}
 use Rattle.world.proofs.LinkLemmas.{Answers, sends}
 use Rattle.world.proofs.PairLink.{follows-sends, send-does, send-none, send-cut, tells-still}
 use Rattle.world.proofs.pair.Pair.send_group.Given.{Over}

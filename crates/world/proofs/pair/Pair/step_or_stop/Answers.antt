@@ -1,6 +1,5 @@
 use Rattle.std.proofs.Common.{ap, refl, sym, ◌∙◌, true≢false}
-use Rattle.world.specs.Words.{Due, is_between}
-use Rattle.world.specs.Cutting.{cut_of}
+use Rattle.world.proofs.Words.{cut_of, Due, is_between}
 use Rattle.world.proofs.PairStopping.{fault-breaks, primary-stops, step-breaks-in, step-takes}
 use Rattle.world.proofs.StepLemmas.{own-is}
 use Rattle.world.proofs.pair.Pair.step_or_stop.Goals as goal

@@ -1,8 +1,5 @@
 use Rattle.std.proofs.Common.{List, Ok, Err, ◌++◌, [], ap, sym, ◌∙◌, append-nil, true≢false}
-use Rattle.world.specs.Words.{Freed, notices_of}
-use Rattle.world.proofs.Words.{err_from_is_err_and}
-use Rattle.world.specs.Parts.{parts_of}
-use Rattle.world.specs.declared.history.History.{History}
+use Rattle.world.proofs.Words.{err_from_is_err_and, Freed, History, notices_of, parts_of}
 use Rattle.world.proofs.LivesLemmas.{serves-as}
 use Rattle.world.proofs.PairLemmas.{back-stands}
 use Rattle.world.proofs.PairCutStep.{step-breaks}

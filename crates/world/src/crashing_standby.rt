@@ -1,12 +1,10 @@
-//! Crashes inside a call of a pair's standby.
+//! Crashes of a pair's standby, between two events or inside a call.
 ghost use Rattle.std.specs.Prelude.{◌≡◌, ◌↔◌, ℕ, [], List, map, IsTrue, Ok};
-ghost use Rattle.connections.specs.Session.{AddsOne, HasSeat, SessionsRefine, seats_of};
-ghost use Rattle.machine.specs.Event.{Connection as Machine, left};
+ghost use Rattle.world.specs.Words.{AddsOne, Call, cut_at, HasSeat, left, seats_of, SessionsRefine};
+ghost use Rattle.machine.specs.Event.{Connection as Machine};
 ghost use Rattle.machine.specs.declared.event.Cut.TheVariants as cuts;
 ghost use Rattle.machine.specs.declared.event.Event.TheVariants as events;
 ghost use Rattle.machine.specs.declared.event.Node.TheVariants as nodes;
-ghost use Rattle.model.specs.Call.{cut_at};
-ghost use Rattle.model.specs.declared.call.Call.{Call};
 ghost use Rattle.model.specs.declared.record.Role.TheVariants as roles;
 ghost use Rattle.world.specs.Pair.{HasWorld};
 ghost use Rattle.world.specs.Cutting.{GoesByImage};
@@ -17,16 +15,50 @@ ghost use Rattle.world.specs.declared.history.History.{History};
 use crate::history::History;
 use crate::pair::{Pair, Stepper};
 use failover::{operator_fence, promote_image};
-use follower::Condition;
+use machine::Cut;
 use model::{Record, Role};
 use mv_keyspace::Keyspace;
 use wbl_engine::Restarting;
 
 impl<E: Restarting, K: Keyspace + Drop> Pair<E, K> {
+    pub(crate) fn crash_standby(
+        &mut self,
+        history: &mut History,
+        call: Cut,
+        k: u64,
+        picks: &Vec<u64>,
+    ) -> bool
+        requires { HasWorld (⟦<Pair<E, K> as Stepper>⟧.parts self.old history.old) }
+        ensures { IsStep (⟦<Pair<E, K> as Stepper>⟧.parts self.old history.old) (events.Crash nodes.Standby call k picks.now) (Ok result) (⟦<Pair<E, K> as Stepper>⟧.parts self.new history.new) }
+    {
+        match call {
+            Cut::Between => self.crash_standby_between(history, picks),
+            Cut::Apply => self.cut_frame(history, k, picks),
+            Cut::Reopen => self.cut_standby_opening(history, k, picks),
+            Cut::Promote => self.cut_promotion(history, k, picks),
+            Cut::Commit => false,
+            Cut::Free => false,
+            Cut::ClearGap => false,
+        }
+    }
+
+    /// Of a standby that runs or has stopped there is its image then.
+    fn crash_standby_between(&mut self, history: &mut History, picks: &Vec<u64>) -> bool
+        requires { HasWorld (⟦<Pair<E, K> as Stepper>⟧.parts self.old history.old) }
+        ensures { (k : ℕ) → IsStep (⟦<Pair<E, K> as Stepper>⟧.parts self.old history.old) (events.Crash nodes.Standby cuts.Between k picks.now) (Ok result) (⟦<Pair<E, K> as Stepper>⟧.parts self.new history.new) }
+    {
+        if !self.standby_condition.may_crash() {
+            return false;
+        }
+        self.standby.crash(picks.as_slice());
+        self.go_by_image(history);
+        true
+    }
+
     /// The standby crashes while it takes the first frame that came.
-    pub(crate) fn cut_frame(&mut self, history: &History, k: u64, picks: &Vec<u64>) -> bool
-        requires world { HasWorld (⟦<Pair<E, K> as Stepper>⟧.parts self.old history.now) }
-        ensures { IsStep (⟦<Pair<E, K> as Stepper>⟧.parts self.old history.now) (events.Crash nodes.Standby cuts.Apply k picks.now) (Ok result) (⟦<Pair<E, K> as Stepper>⟧.parts self.new history.now) }
+    fn cut_frame(&mut self, history: &mut History, k: u64, picks: &Vec<u64>) -> bool
+        requires world { HasWorld (⟦<Pair<E, K> as Stepper>⟧.parts self.old history.old) }
+        ensures { IsStep (⟦<Pair<E, K> as Stepper>⟧.parts self.old history.old) (events.Crash nodes.Standby cuts.Apply k picks.now) (Ok result) (⟦<Pair<E, K> as Stepper>⟧.parts self.new history.new) }
     {
         if !self.standby_condition.is_running() {
             return false;
@@ -38,19 +70,14 @@ impl<E: Restarting, K: Keyspace + Drop> Pair<E, K> {
         self.standby.keep_at(k);
         let _ = self.standby.on_frame(self.alloc, frame);
         self.standby.crash_kept(picks.as_slice());
-        self.fall_behind();
+        self.go_by_image(history);
         true
     }
 
     /// The standby crashes while its image is opened.
-    pub(crate) fn cut_standby_opening(
-        &mut self,
-        history: &History,
-        k: u64,
-        picks: &Vec<u64>,
-    ) -> bool
-        requires world { HasWorld (⟦<Pair<E, K> as Stepper>⟧.parts self.old history.now) }
-        ensures { IsStep (⟦<Pair<E, K> as Stepper>⟧.parts self.old history.now) (events.Crash nodes.Standby cuts.Reopen k picks.now) (Ok result) (⟦<Pair<E, K> as Stepper>⟧.parts self.new history.now) }
+    fn cut_standby_opening(&mut self, history: &mut History, k: u64, picks: &Vec<u64>) -> bool
+        requires world { HasWorld (⟦<Pair<E, K> as Stepper>⟧.parts self.old history.old) }
+        ensures { IsStep (⟦<Pair<E, K> as Stepper>⟧.parts self.old history.old) (events.Crash nodes.Standby cuts.Reopen k picks.now) (Ok result) (⟦<Pair<E, K> as Stepper>⟧.parts self.new history.new) }
     {
         if !self.standby_condition.has_crashed() {
             return false;
@@ -58,13 +85,13 @@ impl<E: Restarting, K: Keyspace + Drop> Pair<E, K> {
         self.standby.keep_at(k);
         let _ = self.standby.restart(self.alloc);
         self.standby.crash_kept(picks.as_slice());
-        self.fall_behind();
+        self.go_by_image(history);
         true
     }
 
     /// The standby crashes while its image is promoted: that is a standby's still, or a primary's, which is to be opened. The opening that follows in a promotion is cut as
     /// that of a primary.
-    pub(crate) fn cut_promotion(&mut self, history: &mut History, k: u64, picks: &Vec<u64>) -> bool
+    fn cut_promotion(&mut self, history: &mut History, k: u64, picks: &Vec<u64>) -> bool
         requires world { HasWorld (⟦<Pair<E, K> as Stepper>⟧.parts self.old history.old) }
         ensures { IsStep (⟦<Pair<E, K> as Stepper>⟧.parts self.old history.old) (events.Crash nodes.Standby cuts.Promote k picks.now) (Ok result) (⟦<Pair<E, K> as Stepper>⟧.parts self.new history.new) }
     {
@@ -83,7 +110,7 @@ impl<E: Restarting, K: Keyspace + Drop> Pair<E, K> {
     }
 
     /// The standby has crashed, and its image tells whose it is: a standby's still, or that of the primary which it becomes.
-    pub(crate) fn go_by_image(&mut self, history: &mut History)
+    fn go_by_image(&mut self, history: &mut History)
         ensures { GoesByImage (⟦<Pair<E, K> as Stepper>⟧.parts self.old history.old) (⟦<Pair<E, K> as Stepper>⟧.parts self.new history.new) }
     {
         let Some(found) = self.standby.image_record() else {
