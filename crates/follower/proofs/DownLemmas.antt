@@ -4,6 +4,9 @@ use Rattle.std.proofs.lemmas.List.{length-append}
 use Rattle.follower.specs.Words.{Call, Contents, cut_at, entries_of, EntryNo, Exhausted, ExhaustsReopening, HasRecord, Holder, Holds, Image, image_of, IsDurable, IsImage, IsMapOf, IsSettled, IsUndamaged, Keeps, keyspace_after, layout_in, LeavesOnly, Memory, position_of, Record, Refusal, RefusesReopening, State, StaysReadable, Word, AreContentsAt, EngineStands}
 use Rattle.follower.proofs.Words.{AreContentsAt-grows, entries_same, HasRecord-lines, Holds-versions, lawful_undamaged, LeavesOnly-weaken}
 use Rattle.pmem.proofs.Staging.{IsImage-settled}
+use Rattle.model.specs.Image.{entries_of_lines}
+use Rattle.model.proofs.MapLemmas.{IsMapOf-same}
+use Rattle.wbl_engine.specs.Reopening.{KeepsThrough, Reopens, open_gap, reopened, with_room}
 use Rattle.model.specs.declared.layout.Layout.{Layout}
 use Rattle.model.specs.declared.record.Role.{Role}
 use Rattle.wbl_engine.proofs.ReopeningLaws.{keeps_through, lawful_refusal, reopening_lawful}

@@ -1,13 +1,13 @@
 -- The image of a node that is opened again, and what that leaves of it.
-use Rattle.std.proofs.Common.{◌≡◌, ◌≢◌, ◌⊎◌, inl, ℕ, ◌<◌, Bool, false, List, length, sym, ap, subst, ◌≤◌}
-use Rattle.follower.specs.Words.{Call, Contents, cut_at, entries_of, ExhaustsReopening, Fault, HasRecord, Holder, image_of, IsDurable, IsImage, IsReopened, IsUndamaged, keyspace_after, layout_in, LeavesOnly, Memory, Record, records, Refusal, RefusesReopening, State, StaysReadable, Table, AreContentsAt, EngineStands}
+use Rattle.std.proofs.Common.{◌≡◌, ◌≢◌, ◌⊎◌, inl, inr, ℕ, ◌<◌, ◌∙◌, Bool, false, List, length, sym, ap, subst, ◌≤◌}
+use Rattle.follower.specs.Words.{Call, Contents, cut_at, entries_of, Exhausted, ExhaustsReopening, Fault, HasRecord, Holder, image_of, IsDurable, IsImage, IsReopened, IsUndamaged, keyspace_after, layout_in, LeavesOnly, Memory, Record, records, Refusal, RefusesReopening, State, StaysReadable, Table, AreContentsAt, EngineStands}
 use Rattle.follower.proofs.Words.{IsKeyspace-keyspace_after, LeavesOnly-weaken, map-from_table}
 use Rattle.model.specs.declared.record.Role.{Role}
 use Rattle.model.proofs.MapLemmas.{IsMapOf-unique}
 use Rattle.mv_keyspace.specs.Table.{IsTable}
 use Rattle.follower.specs.Cause.{Breaks, RestsBeforeReopening}
 use Rattle.follower.specs.Images.{IsDown, Moves, Rests, OpensAtEither}
-use Rattle.follower.proofs.DownLemmas.{down-floor, down-gaps, down-reopened, restart-moments, settled-image}
+use Rattle.follower.proofs.DownLemmas.{down-floor, down-gaps, down-reopened, restart-moments, restart-refused, settled-image}
 
 -- ---- the image
 
