@@ -12,6 +12,7 @@ ghost use Rattle.world.specs.declared.history.History.{History};
 
 use crate::history::History;
 use crate::pair::{Pair, Stepper};
+use follower::Condition;
 use group_commit::Due;
 use machine::{Cut, Node};
 use mv_keyspace::Keyspace;

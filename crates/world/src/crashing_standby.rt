@@ -15,6 +15,7 @@ ghost use Rattle.world.specs.declared.history.History.{History};
 use crate::history::History;
 use crate::pair::{Pair, Stepper};
 use failover::{operator_fence, promote_image};
+use follower::Condition;
 use machine::Cut;
 use model::{Record, Role};
 use mv_keyspace::Keyspace;
