@@ -1,6 +1,7 @@
 -- How a pair of nodes with its connections refines the machine's, while its primary runs, while it is crashed, and once it has stopped or was fenced.
 use Rattle.std.specs.Prelude.{◌≡◌, ◌⊎◌, ℕ, ◌<◌, Bool, true, false, if◌then◌else◌, List, [], ◌++◌, length, slice_index_or, All, Vec, vec_capacity, Result, IfOk, IfErr}
-use Rattle.world.specs.Words.{node, Acknowledgement, AddsOne, Allowed, are_running, Call, Connection, Connections, Contents, cut_at, Event, Follower, Freed, Global, Group, HasSeat, Holder, Image, is_enabled, IsImage, LeavesOnly, new_committer, new_link, Opening, position_of, Promote, Refusal, released_in, released_of, Remains, row, safe_position, seats_of, SeatsFollow, SequencerRefines, Sequencing, SessionsRefine, Sound, State, Step, Stream, torn, Transcript, Waiting, World}
+use Rattle.world.specs.Words.{Acknowledgement, AddsOne, Allowed, are_running, Call, Connection, Connections, Contents, cut_at, Event, Follower, Freed, Global, Group, HasSeat, Holder, Image, is_enabled, IsImage, LeavesOnly, new_committer, new_link, Opening, position_of, Promote, Refusal, released_in, released_of, Remains, row, safe_position, seats_of, SeatsFollow, SequencerRefines, Sequencing, SessionsRefine, Sound, State, Step, Stream, torn, Transcript, Waiting, World}
+use Rattle.machine.specs.declared.event.Node.TheVariants as node
 use Rattle.model.specs.declared.record.Role.TheVariants as Role
 use Rattle.machine.specs.declared.event.Cut.TheVariants as cut
 use Rattle.machine.specs.Event.{Frame}

@@ -3,7 +3,7 @@ use Rattle.std.specs.Prelude.{◌≡◌, ◌⊎◌, ℕ, ◌<◌, ◌≤◌, ◌
 use Rattle.world.specs.Words.{AddsOne, Apply, AsFollower, AsPrimary, At, Call, Connection, connection_of, Crash, cut_at, Event, Global, Holder, IsReleased, may_remain, MayReply, Memory, OpenLink, position_of, Promote, Refusal, released_in, released_of, Remains, safe_position, Send, state_after, torn, touches, Transcript, TranscriptRefines, Turn, World, Write}
 use Rattle.machine.specs.declared.event.Node.TheVariants as node
 use Rattle.follower.specs.Condition.{has_ended}
-pub use Rattle.world.specs.Effect.{AddsMessage}
+pub use Rattle.follower.specs.Taking.{AcksBy, AddsMessage}
 use Rattle.world.specs.Effect.{Effect}
 use Rattle.world.specs.Headline.{GoesOn, StandsIn}
 use Rattle.world.specs.Link.{AreAcksSent, AreFramesSent}

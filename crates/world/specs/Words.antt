@@ -29,7 +29,6 @@ pub use Rattle.machine.specs.declared.event.Event.{Event}
 pub use Rattle.machine.specs.declared.event.Event.TheVariants.{AcceptFreed, AckDelivered, Apply, ClearGap, CloseGroup, Commit, Crash, FailFence, Fence, Free, Newcomer, OpenLink, PinCopy, Promote, Reopen, Send, SendCopy, Turn, Write}
 pub use Rattle.machine.specs.declared.event.Mark.{Mark}
 pub use Rattle.machine.specs.declared.event.Node.{Node}
-pub use Rattle.machine.specs.declared.event.Node.TheVariants as node
 pub use Rattle.machine.specs.declared.event.TheConstants.{KEPT_GROUPS, PIPE_ITEMS}
 pub use Rattle.model.specs.Call.{cut_at, is_nonempty, IsLegal, keyspace_after, MayReply, position_of, state_after}
 pub use Rattle.model.specs.Floor.{floor_raised}
