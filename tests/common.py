@@ -41,7 +41,7 @@ PROGRAMS = {
 # Each limit in seconds is that of a machine with a core for each process that runs; one that is busier has so many times as long, ten times at most.
 BUSY = min(10, max(1, os.getloadavg()[0] / len(os.sched_getaffinity(0))))
 # A program that takes longer has failed.
-SECONDS = 300 * BUSY
+SECONDS = 600 * BUSY
 
 # Whether the cases of a sweep are all tried (`tests/run --long`), and which share of them otherwise.
 IS_LONG = False

@@ -2,10 +2,10 @@
 counts what passes."""
 
 import contextlib
-import socket
 import threading
 
-from pair import HOST, Port, wait_until
+from between import Between
+from pair import wait_until
 from plain_wire import ACK_BYTES, ACKNOWLEDGEMENT, COPY_END, COPY_PART, COPY_WANTED, GREETING, GREETING_BYTES, GROUP
 
 # How many bytes the frames have that are of one length, by their first byte.
@@ -47,26 +47,19 @@ class Frames:
         return self.come[:length]
 
 
-class CopyLink:
-    """Passes on what comes, either way. `standby` is the port of the node behind it, which may change; while it is deaf it takes no new connection. Of the last
-    connection on which a copy was asked for, `parts` has the bodies of the parts that came, and `ends` the ends; `wanted` counts such connections."""
+class CopyLink(Between):
+    """While it is deaf it takes no new connection. Of the last connection on which a copy was asked for, `parts` has the bodies of the parts that came, and `ends`
+    the ends; `wanted` counts such connections."""
 
     def __init__(self, standby):
-        self.standby, self.stage, self.is_deaf = standby, None, False
+        self.stage, self.is_deaf = None, False
         self.parts, self.ends, self.wanted = [], [], 0
         self.is_held, self.goes_on = threading.Event(), threading.Event()
-        self.port, self.door, self.open = Port(), socket.socket(), []
-        self.door.setsockopt(socket.SOL_SOCKET, socket.SO_REUSEADDR, 1)
-        self.door.bind((HOST, self.port.number))
-        self.door.listen()
-        threading.Thread(target=self._take_connections, daemon=True).start()
+        super().__init__(standby)
 
     def close(self):
         self.release()
-        self.cut()
-        shut(self.door)
-        self.door.close()
-        self.port.close()
+        super().close()
 
     def hold(self, stage):
         """Holds the next copy at this stage."""
@@ -83,37 +76,18 @@ class CopyLink:
         self.stage = None
         self.goes_on.set()
 
-    def cut(self):
-        """Ends the connections that there are."""
-        for end in self.open:
-            shut(end)
-
-    def _take_connections(self):
-        with contextlib.suppress(OSError):
-            while True:
-                primary, _ = self.door.accept()
-                try:
-                    if self.is_deaf:
-                        raise OSError
-                    standby = socket.create_connection((HOST, self.standby))
-                except OSError:
-                    primary.close()
-                    continue
-                self.open = [*(it for it in self.open if it.fileno() >= 0), primary, standby]
-                for one, other, is_primary in ((primary, standby, True), (standby, primary, False)):
-                    other.setsockopt(socket.IPPROTO_TCP, socket.TCP_NODELAY, 1)
-                    threading.Thread(target=self._pass_on, args=(one, other, is_primary), daemon=True).start()
+    def _connect(self):
+        if self.is_deaf:
+            raise OSError
+        return super()._connect()
 
     def _pass_on(self, one, other, is_primary):
-        with contextlib.suppress(OSError):
-            for data in Frames(one):
-                self._note(data)
-                if self._is_stage(data, is_primary):
-                    self.is_held.set()
-                    self.goes_on.wait()
-                other.sendall(data)
-        shut(one)
-        shut(other)
+        for data in Frames(one):
+            self._note(data)
+            if self._is_stage(data, is_primary):
+                self.is_held.set()
+                self.goes_on.wait()
+            other.sendall(data)
 
     def _note(self, data):
         if data[0] == COPY_WANTED:
@@ -132,9 +106,3 @@ class CopyLink:
         if self.stage == "parts":
             return data[0] in (COPY_PART, COPY_END) and len(self.parts) > int(data[0] == COPY_PART)
         return self.stage == "before the end" and data[0] == COPY_END
-
-
-def shut(end):
-    """Ends a connection, also where another thread waits on it."""
-    with contextlib.suppress(OSError):
-        end.shutdown(socket.SHUT_RDWR)

@@ -23,6 +23,8 @@ PIPELINE = 3
 STORE_IS_FULL = error(NO_ROOM)
 # What a standby tells that can make no room: never one of MORE_LINES more than its primary.
 NAMED = b"refusal 5: full"
+# For how long a request waits at most before a standby that has said so is taken for stuck.
+STUCK_SECONDS = 20
 PAGES = (1_024, 4_096, 16_384)
 LONGEST = 65_536
 
@@ -93,8 +95,8 @@ class PatientClient(Client):
 class Store:
     """What the writers share: how many lines and keys their values may take together, and the clock."""
 
-    def __init__(self, pair, fill, most_wait):
-        self.pair, self.most_wait, self.clock = pair, most_wait, RunningClock()
+    def __init__(self, pair, fill, most_wait, has_spare):
+        self.pair, self.most_wait, self.has_spare, self.clock = pair, most_wait, has_spare, RunningClock()
         self.most_lines = (pair.lines - extents_begin(pair.lines)) * fill // 100
         self.most_keys = LAYOUT.entries(pair.lines) * fill // 100
         self.lock = threading.Lock()
@@ -122,7 +124,7 @@ class Store:
     def check(self, since, what):
         """What was asked then does not wait longer than it may."""
         waited = self.clock.now() - since
-        if waited > self.most_wait:
+        if waited > self.most_wait or waited > STUCK_SECONDS and not self.has_spare and self.is_named():
             standby, primary = (node.errors.read_bytes()[-200:] for node in (self.pair.standby, self.pair.primary))
             raise Waited(f"{what}: no reply in {waited:.1f} s in which both nodes ran; {self.lines} of {self.most_lines} lines are asked for; "
                          f"the standby tells {standby!r}, the primary {primary!r}")
@@ -277,7 +279,8 @@ def load(kind, lines, fill, seconds, standby_lines=None, kills=False, seed=0, mo
     """So many seconds of writers over a pair of images of so many lines, of which their values take `fill` per cent at most. Waited where a request is not
     answered while both nodes run, but where the standby, being no larger, tells that it has no room."""
     with Pair(lines=lines, standby_lines=standby_lines, folder=folder) as pair:
-        store, has_spare = Store(pair, fill, most_wait), (standby_lines or lines) >= lines + MORE_LINES
+        has_spare = (standby_lines or lines) >= lines + MORE_LINES
+        store = Store(pair, fill, most_wait, has_spare)
         writers = [Writer(store, kind, seed, number) for number in range(CLIENTS)]
         count = 0
         try:

@@ -1,5 +1,6 @@
 // Loaded before the C library (LD_PRELOAD), holds the syncs of a program while a file is there. It reads:
-//   HELD_FILE    the file; its name with `.begun` behind it is made when a sync is held, and while there is one with `.slow` each sync takes a millisecond more
+//   HELD_FILE    the file; its name with `.begun` behind it is made when a sync is held, and while there is one with `.slow` each sync takes a millisecond more,
+//                and writes a byte to it before
 //   SLOW_MS      or so many milliseconds
 //   SYNC_US      how many microseconds each sync takes more, whatever files there are
 #include <dlfcn.h>
@@ -27,6 +28,11 @@ static void hold(void) {
     }
     snprintf(slow, sizeof slow, "%s.slow", file);
     if (access(slow, F_OK) == 0) {
+        int counted = open(slow, O_WRONLY | O_APPEND | O_CLOEXEC);
+        if (counted < 0 || write(counted, ".", 1) != 1) {
+            abort();
+        }
+        close(counted);
         nanosleep(&(struct timespec){0, 1000000 * (more == NULL ? 1 : atol(more))}, NULL);
     }
     if (access(file, F_OK) != 0) {

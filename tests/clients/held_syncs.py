@@ -34,5 +34,5 @@ def begun(file):
 
 
 def slow(file):
-    """Where this is there each sync takes a millisecond more, or as many as were said."""
+    """Where this is there each sync takes a millisecond more, or as many as were said; it gets a byte for each."""
     return file.with_suffix(".slow")

@@ -82,10 +82,11 @@ class Transfer(Writer):
 
 
 class Load:
-    """Twenty writers on a pair, and a reader of all their keys, while it runs; and what they know of it after a crash."""
+    """Twenty writers on a pair, and a reader of all their keys, while it runs; and what they know of it after a crash. `pause` is how many seconds each of them
+    rests between two turns at least."""
 
     def __init__(self, pair):
-        self.pair = pair
+        self.pair, self.pause = pair, 0
         kinds = (Counter, Session, Transfer)
         self.writers = [kinds[number % len(kinds)](number) for number in range(WRITERS)]
         self.seen = [0] * WRITERS
@@ -106,7 +107,7 @@ class Load:
             with contextlib.suppress(OSError, Ended), Client(self.pair.door.number) as client:
                 while not self.is_ending.is_set():
                     turn(client)
-                    time.sleep(pause)
+                    time.sleep(max(pause, self.pause))
         except Exception as error:  # (of a thread, to be told by the test)
             self.wrong.append(error)
 

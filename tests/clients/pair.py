@@ -7,7 +7,6 @@ import pathlib
 import random
 import re
 import resource
-import select
 import signal
 import socket
 import subprocess
@@ -19,13 +18,10 @@ import common
 import plain_image
 import plain_journal
 from common import TakesTooLong
+from connection import HOST, PATIENCE, Client, Ended
 from plain_wire import GREETING_BYTES, Greeting, read_greeting, text
-from spelling import spell
 
 LINES = 65_536
-HOST = "127.0.0.1"
-# What is waited for comes within this time; else the test has failed.
-PATIENCE = 60 * common.BUSY
 # Where images are memory-backed files, whose syncs take no time, if the machine has such a folder.
 MEMORY = "/dev/shm"
 # Ports below those that the system gives to sockets that name none.
@@ -35,6 +31,8 @@ WORD_BYTES = 8
 PAIR_AT = WORD_BYTES * plain_image.PAIR_WORD
 # Descriptors of a primary: one for each connection, and some more.
 DESCRIPTORS = 2_048
+# What somebody is told for whom there is no seat.
+NO_SEAT = b"-ERR max number of clients reached\r\n"
 
 # What starts a program so that it ends with the process that started it, and may have so many descriptors.
 LAUNCH = """
@@ -102,100 +100,6 @@ class Port:
 
     def close(self):
         self.claim.close()
-
-
-class Ended(Exception):
-    """The other side has closed the connection."""
-
-
-class Client:
-    """One connection. What is sent and what comes are bytes; each wait has its bound."""
-
-    def __init__(self, port, seconds=PATIENCE):
-        self.socket = socket.create_connection((HOST, port), timeout=seconds)
-        self.socket.setsockopt(socket.IPPROTO_TCP, socket.TCP_NODELAY, 1)
-        self.come = bytearray()
-
-    def __enter__(self):
-        return self
-
-    def __exit__(self, *_):
-        self.close()
-
-    def close(self):
-        self.socket.close()
-
-    def send(self, data):
-        self.socket.sendall(data)
-
-    def ask(self, *words):
-        """The reply to one request, as its bytes."""
-        self.send(spell(*words))
-        return self.reply()
-
-    def ask_all(self, rows):
-        """The replies to many requests that are sent in one piece."""
-        return self.ask_all_spelled([spell(*row) for row in rows])
-
-    def ask_all_spelled(self, requests):
-        """The same, of requests that are spelled already."""
-        self.send(b"".join(requests))
-        return [self.reply() for _ in requests]
-
-    def reply(self):
-        """The bytes of the next reply."""
-        end = self._end_of_reply(0)
-        return self._take(end)
-
-    def _end_of_reply(self, at):
-        """Where the reply that begins here ends."""
-        end = self._end_of_line(at)
-        kind, count = self.come[at:at + 1], self.come[at + 1:end - 2]
-        if kind == b"$" and int(count) >= 0:
-            end += int(count) + 2
-            self._need(end)
-        for _ in range(int(count) if kind == b"*" else 0):
-            end = self._end_of_reply(end)
-        return end
-
-    def _end_of_line(self, at):
-        while (place := self.come.find(b"\r\n", at)) < 0:
-            self._receive()
-        return place + 2
-
-    def _need(self, length):
-        while len(self.come) < length:
-            self._receive()
-
-    def _receive(self):
-        piece = self.socket.recv(1 << 18)
-        if not piece:
-            raise Ended(f"with {bytes(self.come[:200])!r} left")
-        self.come += piece
-
-    def _take(self, length):
-        taken = bytes(self.come[:length])
-        del self.come[:length]
-        return taken
-
-    def read(self, length):
-        """The next bytes, exactly so many."""
-        self._need(length)
-        return self._take(length)
-
-    def read_all(self):
-        """All bytes until the other side closes its sending side."""
-        with contextlib.suppress(Ended):
-            while True:
-                self._receive()
-        return self._take(len(self.come))
-
-    def end_sending(self):
-        self.socket.shutdown(socket.SHUT_WR)
-
-    def is_silent(self, seconds=0.2):
-        """Whether nothing has come and nothing comes within this time."""
-        return not self.come and not select.select([self.socket], [], [], seconds)[0]
 
 
 def launch(words, descriptors=DESCRIPTORS, **options):
@@ -379,6 +283,18 @@ class Pair:
         """A connection, which is closed with the pair. It is refused while nobody listens."""
         return self.parts.enter_context(contextlib.closing(Client(self.door.number, seconds)))
 
+    def seated_client(self):
+        """A connection that is served, or None where there was no seat for it."""
+        client = self.client()
+        with contextlib.suppress(Ended, OSError):
+            found = client.ask("PING")
+            if found == b"+PONG\r\n":
+                return client
+            if found != NO_SEAT:
+                raise AssertionError(found)
+        client.close()
+        return None
+
     def wait(self):
         """Waits until both listen, and a request is answered."""
         for node in (self.standby, self.primary):
@@ -422,7 +338,7 @@ class PairCases(common.Cases):
     # Whether images are on disk; otherwise they are where a busy disk delays nothing.
     ON_DISK = False
     # A test that takes longer has failed, and all that it started is ended.
-    MOST_SECONDS = 600 * common.BUSY
+    MOST_SECONDS = 1_200 * common.BUSY
 
     def setUp(self):
         # (the long part has so many times as many cases)

@@ -4,7 +4,6 @@ than the test's, so that what they do takes no time of the test's own clients.
     pipelines.py PORT COUNT LENGTH      for each line that comes it prints how many INCRs of each were answered; it ends where its input ends"""
 
 import contextlib
-import pathlib
 import selectors
 import socket
 import subprocess

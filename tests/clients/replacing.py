@@ -1,11 +1,11 @@
 """A pair whose standby is lost and replaced by a newcomer, with no restart of the primary: what the tests of full copies share."""
 
+from between import put_between
 from copy_link import CopyLink
 from pair import Node, PairCases, inspected, number_in, run, wait_until
 from plain_keyspace import Put
 from plain_replies import OK
 from plain_wire import MOST_VALUE
-from test_cut_links import put_between
 
 # An image that has room for values of a mebibyte, of which each takes 16,385 lines.
 LINES = 2**17
@@ -44,9 +44,11 @@ class Replacing(PairCases):
         self.changes += len(values)
 
     def lose_standby(self):
-        """The standby is killed, and its image is gone."""
+        """The standby is killed, and its image is gone. Returns the position at which that stood: nothing above it is answered without another standby."""
         self.nodes.standby.end()
+        position = self.nodes.standby.inspect()["position"]
         self.nodes.standby.image.unlink()
+        return position
 
     def newcomer(self, epoch=None, lines=None, port=None):
         """A newcomer over a new image, which does not run yet, at the standby's address or at this port."""

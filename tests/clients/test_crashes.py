@@ -103,10 +103,12 @@ class Crashes(PairCases):
         """It lets nothing out while it is frozen. Then it goes on, or it is killed as it is, or the primary is."""
         def crash(number):
             self.nodes.standby.freeze()
+            # (what it had acknowledged may come late on a busy machine)
+            position = self.nodes.standby.read_image().record.position
             self.load.wait_for_silence()
-            answered = self.load.answered()
+            self.assertLessEqual(self.load.answered(), position)
             time.sleep(0.2)
-            self.assertEqual(self.load.answered(), answered)
+            self.assertLessEqual(self.load.answered(), position)
             if number % 3 == 0:
                 self.nodes.standby.thaw()
                 self.load.wait_for(ANSWERS * WRITERS)

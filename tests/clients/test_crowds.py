@@ -1,5 +1,6 @@
 """Many connections at the same time, and connections whose rings are filled: a ring has 1,024 places for what came and for replies."""
 
+import contextlib
 import pathlib
 import re
 import socket
@@ -7,7 +8,7 @@ import threading
 import time
 
 from common import TakesTooLong
-from pair import HOST, PATIENCE, Client, ServingCases, allow_descriptors, wait_until
+from pair import HOST, NO_SEAT, PATIENCE, Client, Ended, ServingCases, allow_descriptors, wait_until
 from plain_replies import OK, bulk, integer
 from spelling import spell
 from worked_cases import NULL, PONG
@@ -16,7 +17,6 @@ PROGRAMS = ["server"]
 IS_SLOW = True
 
 SEATS, THREADS = 1_024, 4
-NO_SEAT = b"-ERR max number of clients reached\r\n"
 # More requests than a ring has places, and a value of which so many do not fit into what sockets hold.
 REQUESTS, VALUE = 2_000, 16_384 * b"v"
 
@@ -48,31 +48,30 @@ class Doors(ServingCases):
     def test_four_threads_take_all_seats(self):
         self.assertTrue(allow_descriptors(SEATS + 200), "this process may not have so many descriptors")
         wait_until(self.is_empty, "a pair without connections")
-        # (a seat is given back just behind the close of its connection)
-        time.sleep(0.1)
         parts = [[] for _ in range(THREADS)]
 
         def enter(part):
             for _ in range(SEATS // THREADS):
                 part.append(self.nodes.client())
-                part[-1].send(spell("PING") + spell("INCR", "n"))
+                with contextlib.suppress(ConnectionError):
+                    part[-1].send(spell("PING") + spell("INCR", "n"))
 
         run_threads(*(lambda part=part: enter(part) for part in parts))
-        clients = [client for part in parts for client in part]
         with self.case("each is served"):
-            self.assertEqual([client.reply() for client in clients], SEATS * [PONG])
+            clients = [self.seated(client) for part in parts for client in part]
+            self.assertEqual(len(clients), SEATS)
             found = sorted(int(client.reply()[1:]) for client in clients)
             self.assertEqual(found, list(range(1, SEATS + 1)))
         with self.case("one more"), Client(self.nodes.door.number) as one_more:
             self.assertEqual(one_more.read_all(), NO_SEAT)
         with self.case("one leaves, and one more gets in"):
             clients.pop().close()
-            self.assertEqual(wait_until(self.enter, "a seat that was given back").ask("INCR", "n"), integer(SEATS + 1))
+            self.assertEqual(wait_until(self.nodes.seated_client, "a seat that was given back").ask("INCR", "n"), integer(SEATS + 1))
             with Client(self.nodes.door.number) as one_more:
                 self.assertEqual(one_more.read_all(), NO_SEAT)
         with self.case("all leave at the same time, and as many come"):
             run_threads(*(lambda part=part: [client.close() for client in part] for part in parts))
-            clients = [wait_until(self.enter, "a seat") for _ in range(SEATS // THREADS)]
+            clients = [wait_until(self.nodes.seated_client, "a seat") for _ in range(SEATS // THREADS)]
             self.assertEqual([client.ask("GET", "n") for client in clients], len(clients) * [bulk(b"%d" % (SEATS + 1))])
 
     def is_empty(self):
@@ -80,11 +79,18 @@ class Doors(ServingCases):
         table = pathlib.Path("/proc/net/tcp").read_text(encoding="ascii")
         return re.search(rf": \w+:{self.nodes.door.number:04X} \w+:\w+ 0[18] ", table) is None
 
-    def enter(self):
-        """A connection that has a seat, or None."""
-        client = self.nodes.client()
-        found = client.ask("PING")
-        return client if found == PONG else client.close()
+    def seated(self, client):
+        """A connection that is served, before its second reply: this one, or one in its place. (The seat of the connection that was there before all others is
+        given back just behind its close, so one of the first may be told that there is none yet.)"""
+        found = NO_SEAT
+        with contextlib.suppress(Ended, ConnectionError):
+            found = client.reply()
+        if found == NO_SEAT:
+            client = wait_until(self.nodes.seated_client, "the seat of one that left")
+            client.send(spell("INCR", "n"))
+            found = PONG
+        self.assertEqual(found, PONG)
+        return client
 
 
 class ReadingBack(ServingCases):

@@ -1,15 +1,13 @@
 """A link that is cut again and again, at any byte of what goes either way, under writers. It catches a frame that is taken in part, or twice, a
 position that is told before it is held, and a link that is not opened again."""
 
-import contextlib
 import os
 import random
-import socket
-import threading
 import time
 
+from between import Between, put_between
 from load import WRITERS, Load
-from pair import HOST, PairCases, Port, wait_until
+from pair import PairCases, wait_until
 from plain_replies import OK
 
 PROGRAMS = ["server"]
@@ -22,76 +20,34 @@ SHORT, LONG = 60, 4_000
 PIECES = (1, 7, 50, 65_536)
 
 
-class CuttingLink:
-    """Stands between the primary and the standby, and passes on what comes in pieces of these lengths. While it cuts, each connection lets through some bytes
-    either way, a number that is drawn; the rest is lost and both sides see the end."""
+class CuttingLink(Between):
+    """Passes on what comes in pieces of these lengths. While it cuts, each connection lets through some bytes either way, a number that is drawn; the rest is lost
+    and both sides see the end."""
 
     def __init__(self, standby, draws, pieces=PIECES):
-        self.standby, self.draws, self.pieces, self.cuts, self.is_cutting = standby, draws, pieces, 0, False
+        self.draws, self.pieces, self.cuts, self.is_cutting = draws, pieces, 0, False
         # how many bytes were passed on
         self.passed = 0
-        self.port, self.door, self.open = Port(), socket.socket(), []
-        self.door.setsockopt(socket.SOL_SOCKET, socket.SO_REUSEADDR, 1)
-        self.door.bind((HOST, self.port.number))
-        self.door.listen()
-        threading.Thread(target=self._take_connections, daemon=True).start()
-
-    def close(self):
-        for end in [self.door, *self.open]:
-            shut(end)
-        self.port.close()
+        super().__init__(standby)
 
     def cut(self):
-        """Begins to cut, the connection that there is first."""
+        """Begins to cut, the connections that there are first."""
         self.is_cutting = True
-        for end in self.open[-2:]:
-            shut(end)
-
-    def _take_connections(self):
-        with contextlib.suppress(OSError):
-            while True:
-                primary, _ = self.door.accept()
-                try:
-                    standby = socket.create_connection((HOST, self.standby))
-                except OSError:
-                    primary.close()
-                    continue
-                self.open += [primary, standby]
-                for one, other in ((primary, standby), (standby, primary)):
-                    other.setsockopt(socket.IPPROTO_TCP, socket.TCP_NODELAY, 1)
-                    most = self._drawn_length() if self.is_cutting else None
-                    threading.Thread(target=self._pass_on, args=(one, other, most), daemon=True).start()
+        super().cut()
 
     def _drawn_length(self):
         """Mostly with some frames in it: a primary waits longer each time that nothing came of a link."""
         return self.draws.randint(0, SHORT if self.draws.random() < 0.1 else LONG)
 
-    def _pass_on(self, one, other, most):
-        with contextlib.suppress(OSError):
-            while data := one.recv(self.draws.choice(self.pieces)):
-                other.sendall(data if most is None else data[:most])
-                self.passed += len(data)
-                most = None if most is None else most - len(data)
-                if most is not None and most <= 0:
-                    self.cuts += 1
-                    break
-        shut(one)
-        shut(other)
-
-
-def put_between(nodes, between):
-    """Starts the primary of a pair again, to send by way of this."""
-    primary = nodes.primary
-    primary.end()
-    primary.words[primary.words.index("--link") + 1] = between.port.address()
-    primary.start()
-    wait_until(primary.is_listening, "a primary that listens")
-
-
-def shut(end):
-    """Ends a connection, also where another thread waits on it."""
-    with contextlib.suppress(OSError):
-        end.shutdown(socket.SHUT_RDWR)
+    def _pass_on(self, one, other, _):
+        most = self._drawn_length() if self.is_cutting else None
+        while data := one.recv(self.draws.choice(self.pieces)):
+            other.sendall(data if most is None else data[:most])
+            self.passed += len(data)
+            most = None if most is None else most - len(data)
+            if most is not None and most <= 0:
+                self.cuts += 1
+                break
 
 
 class CutLinks(PairCases):

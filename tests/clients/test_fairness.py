@@ -28,6 +28,10 @@ MOST = {100: 30_000, 4_096: 10_000, 65_536: 2_000, 1_048_576: 200}
 SLOW_MILLISECONDS, MOST_WHERE_SLOW = 2, {100: 1_000, 65_536: 320}
 
 
+# How often each is counted until it is as it should be: what the machine does beside it may be more than that at times.
+TRIES = 4
+
+
 class Fairness(PairCases):
     @contextlib.contextmanager
     def beside(self, count, length, is_slow=False):
@@ -43,6 +47,15 @@ class Fairness(PairCases):
             time.sleep(0.5)
             yield nodes, made
 
+    def assert_waits_for_few(self, nodes, most):
+        """One that asks one request at a time waits for no more others than these, in the median."""
+        counted = []
+        for _ in range(TRIES):
+            counted.append(self.between(nodes))
+            if statistics.median(counted[-1]) <= most:
+                return
+        self.fail(f"more than {most}: {counted}")
+
     def between(self, nodes):
         """How many others were answered between two answers of one that asks one request at a time."""
         client, ends, counts = nodes.client(), time.monotonic() + SECONDS, []
@@ -54,19 +67,21 @@ class Fairness(PairCases):
         for length, most in MOST.items():
             for count in PIPELINES:
                 with self.case("beside pipelines", length=length, count=count), self.beside(count, length) as (nodes, _):
-                    found = self.between(nodes)
-                    self.assertLessEqual(statistics.median(found), most, found)
+                    self.assert_waits_for_few(nodes, most)
 
     @unittest.skipUnless(held_syncs.HAS_COMPILER, "there is no gcc")
     def test_a_standby_that_syncs_slowly(self):
         for length, most in MOST_WHERE_SLOW.items():
             with self.case("beside a pipeline", length=length), self.beside(1, length, is_slow=True) as (nodes, _):
-                found = self.between(nodes)
-                self.assertLessEqual(statistics.median(found), most, found)
+                self.assert_waits_for_few(nodes, most)
 
     def test_pipelines_get_on_alike(self):
         with self.beside(3, 0) as (_, made):
-            before = made.answered()
-            time.sleep(2)
-            counts = [after - first for first, after in zip(before, made.answered())]
-            self.assertGreater(4 * min(counts), max(counts), counts)
+            counted = []
+            for number in range(TRIES):
+                before = made.answered()
+                time.sleep(2 + 2 * number)
+                counted.append([after - first for first, after in zip(before, made.answered())])
+                if 4 * min(counted[-1]) > max(counted[-1]):
+                    return
+            self.fail(f"they do not get on alike: {counted}")

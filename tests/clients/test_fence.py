@@ -8,7 +8,8 @@ import re
 import common
 import held_syncs
 import simulation
-from pair import LINES, PairCases, spell, wait_until
+from pair import LINES, PairCases, wait_until
+from spelling import spell
 
 KEY = "k" * 500
 # What a reader takes in at most of a connection that is not served: a ring of items, one more, and a block of bytes.

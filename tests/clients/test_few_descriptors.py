@@ -9,7 +9,7 @@ import socket
 import struct
 import time
 
-from pair import Client, Ended, PairCases, allow_descriptors, wait_until
+from pair import NO_SEAT, PATIENCE, Client, PairCases, allow_descriptors, wait_until
 from plain_replies import OK, bulk
 from spelling import spell
 from worked_cases import PONG
@@ -21,11 +21,10 @@ QUICK = ["Few.test_a_standby_that_comes_back"]
 # The least that a node serves with, and what most shells give it.
 LIMITS = [64, 1_024]
 KEPT = 32
-NO_SEAT = b"-ERR max number of clients reached\r\n"
 NO_DESCRIPTOR = b"no descriptor is left"
 TOLD = re.compile(rb"(?m)^room for (\d+) clients: the limit of open files is (\d+): ")
 # For so long one waits for a client that may never be accepted.
-SOON = 5
+SOON = PATIENCE / 4
 # More clients come than there can be.
 MORE = 40
 
@@ -43,18 +42,6 @@ class FewDescriptors(PairCases):
     def crowd(self, pair, count):
         """So many connections, whether or not they are accepted."""
         return [pair.client() for _ in range(count)]
-
-    def enter(self, pair):
-        """A connection that is served, or None where it was told that there is no room."""
-        client = pair.client()
-        try:
-            found = client.ask("PING")
-        except (Ended, OSError):
-            return None
-        if found == PONG:
-            return client
-        self.assertEqual(found, NO_SEAT)
-        return client.close()
 
     def end_standby(self, pair):
         """Ends the standby. The primary had a link, and knows that it is lost, when this returns."""
@@ -75,12 +62,12 @@ class Few(FewDescriptors):
         def work(pair, room):
             told = wait_until(lambda: TOLD.search(pair.primary.errors.read_bytes()), "a line that tells of the room")
             self.assertEqual(tuple(map(int, told.groups())), (room, room + KEPT))
-            clients = [wait_until(lambda: self.enter(pair), "room") for _ in range(room)]
+            clients = [wait_until(pair.seated_client, "room") for _ in range(room)]
             with Client(pair.door.number, SOON) as one_more:
                 self.assertEqual(one_more.read_all(), NO_SEAT)
             self.assertEqual([client.ask("PING") for client in clients], room * [PONG])
             clients[0].close()
-            self.assertEqual(wait_until(lambda: self.enter(pair), "room that was given back").ask("SET", "a", "1"), OK)
+            self.assertEqual(wait_until(pair.seated_client, "room that was given back").ask("SET", "a", "1"), OK)
             self.assertLessEqual(len(os.listdir(f"/proc/{pair.primary.process.pid}/fd")), room + KEPT // 2)
 
         self.try_each_limit(work)
@@ -141,7 +128,7 @@ class Gone(FewDescriptors):
             self.start_standby(pair)
             self.assertEqual([client.reply() for client in clients], room * [OK])
         clients[0].close()
-        self.assertEqual(wait_until(lambda: self.enter(pair), "room that was given back").ask("GET", "a"), bulk(b"1"))
+        self.assertEqual(wait_until(pair.seated_client, "room that was given back").ask("GET", "a"), bulk(b"1"))
 
     def test_who_only_ends_its_sending_side_is_answered(self):
         """It is no client that is gone, while there is room for others."""

@@ -167,7 +167,7 @@ class ToAStandby(StandingBy):
                 while len(found) < GREETING_BYTES + ACK_BYTES and (piece := link.recv(GREETING_BYTES + ACK_BYTES - len(found))):
                     found += piece
                 self.assertEqual(found, text(Greeting(NUMBER)) + text(Acknowledgement(1, 1)))
-            self.assert_in_time(time.monotonic() - began, 15 * common.BUSY)
+            self.assert_in_time(time.monotonic() - began, 30 * common.BUSY)
 
 
 class ToAPrimary(PairCases):

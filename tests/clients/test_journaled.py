@@ -1,5 +1,5 @@
 """A pair whose images have journals (docs/image.md, "Behind the lines"): what its nodes ask of their files is noted, and files are made of what power cuts
-leave at each write and sync, in serving, in checkpoints and in openings; copies of nodes that run; kills. What is in a file is told by the plain model, and of
+leave at each write and sync, in serving, in checkpoints and in openings; kills. What is in a file is told by the plain model, and of
 some by the program. It catches lines that are put in place before their records are durable, a generation that begins too early, and a reply before a sync.
 Where there is no gcc each test that notes calls is skipped, and says so."""
 
@@ -11,7 +11,6 @@ import random
 import shutil
 import subprocess
 import tempfile
-import threading
 
 import common
 import noted_calls
@@ -19,7 +18,7 @@ import plain_image
 import plain_journal
 from load import WRITERS, Load
 from noted_calls import Noting, after_cuts
-from pair import PATIENCE, Ended, PairCases, inspected, wait_until
+from pair import PATIENCE, Ended, PairCases, inspected
 from plain_journal import Shape, image_in
 from plain_replies import integer
 from standby_node import NOWHERE
@@ -31,7 +30,7 @@ IS_SLOW = True
 LINES = 4_096
 SHAPE = Shape.of_image(LINES)
 KEYS = 7
-COPIES, ROUNDS = 100, 6
+ROUNDS = 6
 # (of kills with --long)
 MORE_ROUNDS = 100
 
@@ -176,94 +175,6 @@ class CutsOfLongValues(Cuts):
 
     def expected(self, count):
         return {(b"large",): self.value(count - 1)} if count else {}
-
-
-class Copies(PairCases):
-    """A node is copied while it serves: lines first, then the journal, again where that began anew meanwhile (bin/copy-image)."""
-
-    def test_copies(self):
-        """Each is whole, and holds what was answered before it was begun."""
-        nodes = self.pair(lines=4 * LINES)
-        load, copy = Load(nodes), nodes.folder / "copy.img"
-        load.start()
-        load.wait_for(10 * WRITERS)
-        generations = set()
-        for number in range(COPIES):
-            node = (nodes.primary, nodes.standby)[number % 2]
-            with self.case("copy", number=number):
-                # (so that writes go on between two copies)
-                load.wait_for(WRITERS)
-                answered = load.answered()
-                if number % 10:
-                    self.copy(node.image, copy)
-                else:
-                    copied = subprocess.run([common.ROOT / "bin" / "copy-image", node.image, copy], capture_output=True, text=True, timeout=PATIENCE, check=False)
-                    self.assertEqual((copied.returncode, copied.stdout, copied.stderr), (0, "", ""))
-                asked = load.asked()
-                generations.add((node.role, generation_of(copy.read_bytes())))
-                record = plain_image.read_image(plain_image.Words(nodes.lines, words_of(image_in(copy.read_bytes())))).record
-                self.assertLessEqual(answered, record.position)
-                self.assertLessEqual(record.position, asked)
-                if number % 10 == 0:
-                    self.assertEqual(inspected(copy)["position"], record.position)
-                copy.unlink()
-        load.end()
-        # (checkpoints came between)
-        self.assertGreater(len(generations), 3)
-        load.check("after copies")
-
-    def test_copies_of_values_that_fit_no_part(self):
-        """They are put in place at once: each copy has them whole."""
-        nodes = self.pair(lines=2 * LINES)
-        copy, ended = nodes.folder / "copy.img", threading.Event()
-        lines_of_value = 2_100
-        self.assertGreater(lines_of_value, Shape.of_image(nodes.lines).part)
-
-        def write():
-            with nodes.client() as client:
-                for number in itertools.count():
-                    if ended.is_set():
-                        return
-                    client.ask("SET", "large", chr(97 + number % 26) * (64 * lines_of_value - 100))
-
-        writer = threading.Thread(target=write, daemon=True)
-        writer.start()
-        try:
-            with nodes.client() as client:
-                wait_until(lambda: client.ask("EXISTS", "large") == integer(1), "a large value")
-            for number in range(COPIES // 2):
-                with self.case("copy", number=number):
-                    self.copy((nodes.primary, nodes.standby)[number % 2].image, copy)
-                    held = plain_image.read_image(plain_image.Words(nodes.lines, words_of(image_in(copy.read_bytes())))).map
-                    self.assertEqual([len(set(value)) for value in held.values()], [1])
-                    copy.unlink()
-        finally:
-            ended.set()
-            writer.join(PATIENCE)
-
-    def copy(self, image, copy):
-        """As bin/copy-image does it, within this process."""
-        COPYING.copied(image, copy)
-
-    def test_status_beside_a_node(self):
-        """It is never refused, and tells no position below what was answered."""
-        nodes = self.pair(lines=4 * LINES)
-        load = Load(nodes)
-        load.start()
-        for number in range(30):
-            node = (nodes.primary, nodes.standby)[number % 2]
-            with self.case("status", number=number):
-                load.wait_for(WRITERS)
-                answered = load.answered()
-                found = common.run_program("server", ["status", "--image", str(node.image)], seconds=PATIENCE)
-                self.assertEqual((found.status, found.errors), (0, b""))
-                rows = dict(line.split(b" ", 1) for line in found.output.splitlines())
-                self.assertLessEqual(answered, int(rows[b"position"]))
-                self.assertLessEqual(int(rows[b"position"]), load.asked())
-        load.end()
-
-
-COPYING = common.script("copy-image")
 
 
 class Kills(PairCases):

@@ -12,36 +12,23 @@ import time
 
 import common
 import worked_cases as worked
-from pair import PATIENCE, Client, Ended, Port, ServingCases, allow_descriptors, wait_until
+from pair import NO_SEAT, PATIENCE, Client, Ended, Port, ServingCases, allow_descriptors, wait_until
 from plain_replies import OK, array, bulk, integer
 from spelling import spell
-from worked_cases import GET_A, NULL, ONE, PONG, SET_A
+from worked_cases import GET_A, NULL, ONE, SET_A
 
 PROGRAMS = ["server"]
 IS_SLOW = True
 QUICK = ["Seats", "Leaving"]
 
 SEATS = 1_024
-NO_SEAT = b"-ERR max number of clients reached\r\n"
 LONGEST = 65_536 * b"v"
 
 
 class Seats(ServingCases):
-    def enter(self):
-        """A connection that has a seat, or None where there was none for it."""
-        client = self.nodes.client()
-        try:
-            found = client.ask("PING")
-        except (Ended, OSError):
-            return None
-        if found == PONG:
-            return client
-        self.assertEqual(found, NO_SEAT)
-        return None
-
     def test_1024_connections_and_one_more(self):
         self.assertTrue(allow_descriptors(SEATS + 200), "this process may not have so many descriptors")
-        clients = [wait_until(self.enter, "a seat") for _ in range(SEATS)]
+        clients = [wait_until(self.nodes.seated_client, "a seat") for _ in range(SEATS)]
         for _ in range(3):
             with self.case("one more"), Client(self.nodes.door.number) as one_more:
                 self.assertEqual(one_more.read_all(), NO_SEAT)
@@ -52,7 +39,7 @@ class Seats(ServingCases):
             self.assertEqual(found, list(range(1, SEATS + 1)))
         with self.case("a seat that is given back"):
             clients[0].close()
-            again = wait_until(self.enter, "a seat that was given back")
+            again = wait_until(self.nodes.seated_client, "a seat that was given back")
             self.assertEqual(again.ask("GET", "n"), bulk(b"%d" % SEATS))
 
     def test_more_connections_one_after_another_than_there_are_seats(self):

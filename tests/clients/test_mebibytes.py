@@ -6,7 +6,9 @@ import pathlib
 import random
 import time
 
+import common
 import worked_cases as worked
+from between import put_between
 from pair import PATIENCE, wait_until
 from plain_image import MOST_VALUE_BYTES
 from plain_keyspace import Put
@@ -14,7 +16,7 @@ from plain_replies import LONG_STRING, OK, array, bulk, error, integer
 from plain_wire import Acknowledgement, Group, text
 from spelling import spell
 from standby_node import Node, StandingBy
-from test_cut_links import CuttingLink, put_between
+from test_cut_links import CuttingLink
 from test_images import ROLES
 from test_large import Large, position_in
 
@@ -32,6 +34,8 @@ COUNT = 20
 SPARE_BYTES = 8 * 2**20
 # A connection has rings and blocks, and what it says it will send takes 64 KiB before it comes.
 CONNECTION_BYTES = 131_072
+# By how much the memory of a node that rests may differ from one look to the next.
+REST_BYTES = 65_536
 # What the first long value costs once: the places of lists that are made for good.
 ONCE_BYTES = 384 * 1_024
 # The length of a request's last word, but for its last digit.
@@ -182,7 +186,8 @@ class SlowLinks(Large):
         self.between = CuttingLink(self.nodes.link.number, random.Random("slow links"), pieces)
         self.addCleanup(self.between.close)
         put_between(self.nodes, self.between)
-        self.client = self.nodes.client()
+        # (which waits for as long as all of it takes)
+        self.client = self.nodes.client(self.MOST_SECONDS)
 
     def test_in_single_bytes(self):
         self.start_behind(1)
@@ -322,8 +327,12 @@ class Memory(Large):
                 self.assertLessEqual(last - first, most)
 
     def rest(self):
-        """Until what ended is freed."""
-        time.sleep(1.5)
+        """Until what ended is freed: both nodes have taken about as much for a while."""
+        end, before, found = time.monotonic() + PATIENCE, [0, 0], self.both()
+        while max(abs(last - first) for first, last in zip(before, found)) > REST_BYTES:
+            self.assert_in_time(time.monotonic(), end)
+            time.sleep(1.5 * common.BUSY)
+            before, found = found, self.both()
 
     def start_with_connections(self, count):
         """A pair with as many connections, each of which has asked for something, and what both nodes take then."""

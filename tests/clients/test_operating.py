@@ -145,6 +145,7 @@ class Procedures(Operated):
             with Client(self.shell.port(FIRST)) as client:
                 client.send(spell("SET", "a", f"{at}"))
                 self.assertTrue(client.is_silent(0.05))
+        wait_until(lambda: used() >= before + 20, "seats of all of them")
         time.sleep(1)
         self.assertGreaterEqual(used(), before + 20)
         os.kill(standby, signal.SIGCONT)

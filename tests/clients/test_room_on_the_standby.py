@@ -123,18 +123,25 @@ class Named(RoomCases):
 class Idle(StandingBy):
     """A standby to which nothing comes clears its gaps, the oldest first."""
 
-    def gaps_of(self, path):
-        """The gaps of the image's record; `None` where it was read while a node wrote it."""
+    def record_of(self, path):
+        """The image's record; `None` where it was read while a node wrote it."""
         with contextlib.suppress(plain_image.BadImage):
-            return plain_image.read_image(self.words(path)).record.gaps
+            return plain_image.read_image(self.words(path)).record
         return None
 
-    def silent(self, node, path, *wanted):
-        """A link on which nothing is sent, until these are the gaps one after another, or the node has ended."""
+    def silent(self, node, path):
+        """A link on which nothing is sent, until no gap is left, or the node has ended. Each record meanwhile lacks the oldest gap of the one before it."""
+        first = wait_until(lambda: self.record_of(path), "a record")
+
+        def has_cleared_all():
+            record = self.record_of(path)
+            if record:
+                self.assertEqual(record.gaps, first.gaps[record.number - first.number:])
+            return node.child.poll() is not None or record and not record.gaps
+
         with contextlib.suppress(ConnectionError), node.link() as link:
             link.recv(ACK_BYTES)
-            for gaps in wanted:
-                wait_until(lambda gaps=gaps: node.child.poll() is not None or self.gaps_of(path) == gaps, "a gap that is cleared")
+            wait_until(has_cleared_all, "gaps that are cleared")
 
     def test_all_gaps_are_cleared_and_the_map_stays(self):
         """One gap of a commit that was cut short, and those of three openings."""
@@ -149,9 +156,11 @@ class Idle(StandingBy):
             live = live_versions(self.words(path))
             first = plain_image.read_image(self.words(path)).record
             with Node(path) as node:
-                opened = self.gaps_of(path)
-                self.assertEqual(opened[:len(first.gaps)], first.gaps)
-                self.silent(node, path, *(opened[count:] for count in range(1, len(opened) + 1)))
+                opened = wait_until(lambda: self.record_of(path), "a record")
+                # (a reopening has one more gap, and clears none while there is room for it)
+                cleared = opened.number - first.number - 1
+                self.assertEqual(opened.gaps[:len(first.gaps) - cleared], first.gaps[cleared:])
+                self.silent(node, path)
                 # (and it takes what comes then)
                 frame = Group(1, 1, 2, tuple(puts[400:500]))
                 self.assertEqual(node.exchange(text(frame)), text(Acknowledgement(1, 1)) + text(Acknowledgement(1, 2)))
@@ -173,14 +182,15 @@ class Idle(StandingBy):
                 live = live_versions(self.words(path))
                 noting = Noting(library, path, fails=number)
                 with Node(path, env=os.environ | noting.settings) as node:
-                    self.silent(node, path, "none such")
+                    self.silent(node, path)
                     self.assertEqual(node.ended(), (FAILED, b"", refusal(1)))
                 left, durable, drawn = path.read_bytes(), noting.synced.read_bytes(), random.Random(number)
                 for data in (left, durable, mixed(left, durable, drawn), mixed(left, durable, drawn)):
                     path.write_bytes(data)
                     self.assertEqual(live_versions(self.words(path)), live)
                     with Node(path) as node:
-                        self.silent(node, path, ())
+                        self.silent(node, path)
+                        self.assertIsNone(node.child.poll())
                     self.assertEqual(live_versions(self.words(path)), live)
 
 

@@ -276,7 +276,7 @@ class LoneSets(NotedCases):
             for turn in range(TURNS):
                 self.assertEqual(client.ask("SET", "a", f"{turn}"), OK)
                 # (the primary frees what it replaced a little later; the standby does with the next, or clears gaps, where nothing comes for a second)
-                time.sleep(0.5)
+                time.sleep(0.5 if turn < TURNS // 2 else 0.8)
                 found = {node: self.asked(node) for node in both}
                 if before:
                     seen = {node: was or found[node] - before[node] == wanted[node] for node, was in seen.items()}

@@ -80,17 +80,12 @@ class Watches(Talking, transactions.Watches):
     def test_the_next_in_a_seat_has_no_transaction_and_no_watch(self):
         """All seats are taken, so the next connection has that of the one that left."""
         self.assertTrue(allow_descriptors(SEATS + 200), "this process may not have so many descriptors")
-        clients = [wait_until(self.enter, "a seat") for _ in range(SEATS)]
+        clients = [wait_until(self.nodes.seated_client, "a seat") for _ in range(SEATS)]
         found = [clients[7].ask(*asked.split()) for asked in ["WATCH k", "MULTI", "SET k 1", "NOSUCH"]]
         self.assertEqual(found, [OK, OK, QUEUED, error("ERR unknown command")])
         self.assertEqual(clients[8].ask("SET", "k", "2"), OK)
         clients[7].close()
-        client = wait_until(self.enter, "the seat that was given back")
+        client = wait_until(self.nodes.seated_client, "the seat that was given back")
         found = [client.ask(*asked.split()) for asked in ["EXEC", "SET k 3", "MULTI", "GET k", "EXEC"]]
         self.assertEqual(found, [error("ERR EXEC without MULTI"), OK, OK, QUEUED, array([bulk(b"3")])])
         self.position = 2
-
-    def enter(self):
-        """A connection that has a seat, or None."""
-        client = self.nodes.client()
-        return client if client.ask("PING") == PONG else client.close()

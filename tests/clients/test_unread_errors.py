@@ -64,7 +64,7 @@ class Unread(PairCases):
 
     def assert_answered(self, nodes, value):
         def is_answered():
-            with nodes.client(1) as client:
+            with nodes.client(5) as client:
                 try:
                     return client.ask("SET", "a", value) == OK
                 except (TimeoutError, ConnectionError):

@@ -1,6 +1,8 @@
 """Who waits is woken: a reply goes out when it may, and not at the look that a driver takes once a second; and the last replies go out before
 a connection ends."""
 
+import subprocess
+import sys
 import threading
 import time
 
@@ -17,8 +19,12 @@ IS_ALONE = True
 # A reply takes 5 to 60 ms on a machine that is busy. Where a wake is lost, it takes up to a second.
 SECONDS = 0.1
 ASKED = 200
-# Of so many at most one in ten may take longer: a machine that is busy with other things stops a process now and then.
-MOST_LATE = ASKED // 10
+# Of so many at most one in ten may take longer, and as many more as the same number of wakes took of two processes beside that only wake one another: a machine
+# that is busy with other things stops a process now and then. Where it was busier with one than with the other it is tried again.
+MOST_LATE, TRIES = ASKED // 10, 3
+# How often a request and its reply wake somebody: the thread that serves, a driver, the committer, the link, and on the standby two of them, and back.
+WAKES = 10
+ECHO = "import os\nwhile it := os.read(0, 1): os.write(1, it)"
 # How many others there are, and how many requests each sends in one piece.
 OTHERS, PIECE = 8, 16
 # Connections that end at once, and how many follow one another in a thread.
@@ -30,14 +36,30 @@ class Latency(ServingCases):
 
     def assert_soon(self):
         """One client's SETs are answered soon."""
-        late = []
+        found = []
+        with subprocess.Popen([sys.executable, "-ISc", ECHO], stdin=subprocess.PIPE, stdout=subprocess.PIPE, bufsize=0) as echo:
+            for _ in range(TRIES):
+                found.append(self.late(echo))
+                if found[-1][0] <= MOST_LATE + found[-1][1]:
+                    return
+        self.fail(f"so many of {ASKED} replies were late, and so many of as many wakes: {found}")
+
+    def late(self, echo):
+        """How many of a client's SETs are late, and how often as many wakes of another process are."""
+        replies = wakes = 0
         with Client(self.nodes.door.number) as client:
             for at in range(ASKED):
                 begun = time.monotonic()
                 self.assertEqual(client.ask("SET", "one", f"{at}"), OK)
-                seconds = time.monotonic() - begun
-                late += [seconds] if seconds > SECONDS else []
-                self.assertLessEqual(len(late), MOST_LATE, f"after {at + 1} of them: {late}")
+                replied = time.monotonic()
+                for _ in range(WAKES // 2):
+                    echo.stdin.write(b".")
+                    echo.stdout.read(1)
+                replies, wakes = replies + (replied - begun > SECONDS), wakes + (time.monotonic() - replied > SECONDS)
+                # (there is no need to look at more)
+                if replies > 2 * MOST_LATE + wakes:
+                    break
+        return replies, wakes
 
     def test_alone(self):
         self.assert_soon()

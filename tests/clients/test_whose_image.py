@@ -15,7 +15,7 @@ IS_SLOW = True
 # How long is waited for an answer that is not to come.
 SECONDS = 2 * common.BUSY
 # How long for what a node tells.
-TELLING = 15 * common.BUSY
+TELLING = 60 * common.BUSY
 REFUSED = re.compile(rb"refusal (\d+): ")
 NO_ANSWER = None
 

@@ -17,6 +17,8 @@ from spelling import read
 # What a node says last that was refused memory, and one whose image could not be written; and a pair within one process that lost a connection of its own.
 NO_MEMORY, FAULT, BROKEN = b"refusal 14: out of memory\n", b"refusal 1: device fault\n", b"broken connection\n"
 FAILED, PASSING = 1, 75
+# How long a request waits before it is asked by another connection: at first, and at most where it was asked again and again, as on a busy machine.
+ASKED_SECONDS, MOST_ASKED_SECONDS = 0.5, 10
 
 
 def status_after(told):
@@ -123,8 +125,9 @@ class FaultyPair(FaultyCases, PairCases):
         """As many connections as there are seats are served beside the bystander: none of those that were refused anything has kept its own."""
         if allow_descriptors(SEATS + 256):
             with contextlib.ExitStack() as held:
-                clients = [held.enter_context(Client(nodes.door.number)) for _ in range(SEATS - 1)]
-                self.assertEqual([client.ask("PING") for client in clients], (SEATS - 1) * [b"+PONG\r\n"])
+                # (one that has just left gives its seat back a moment later)
+                for _ in range(SEATS - 1):
+                    held.enter_context(wait_until(nodes.seated_client, "a seat"))
 
     def assert_same(self, nodes):
         """Both images hold the same."""
@@ -171,19 +174,20 @@ class FaultyPair(FaultyCases, PairCases):
         """Starts a node again, and waits until it has ended or a change was answered; whether it ended."""
         node.errors.unlink(missing_ok=True)
         node.start(nodes.descriptors)
-        end = time.monotonic() + PATIENCE
+        end, seconds = time.monotonic() + PATIENCE, ASKED_SECONDS
         while time.monotonic() < end:
             if not node.is_running():
                 return True
-            if self.is_answered(nodes, number):
+            if self.is_answered(nodes, number, seconds):
                 return False
             time.sleep(0.002)
+            seconds = min(1.2 * seconds, MOST_ASKED_SECONDS)
         raise TakesTooLong(f"the {node.role} neither ends nor serves: {node.errors.read_bytes()!r}")
 
-    def is_answered(self, nodes, number):
-        """Whether a change is answered within half a second."""
+    def is_answered(self, nodes, number, seconds):
+        """Whether a change is answered within so many seconds."""
         try:
-            with Client(nodes.door.number, 0.5) as client:
+            with Client(nodes.door.number, seconds) as client:
                 return client.ask("SET", "start", f"{number}") == OK
         except (Ended, OSError):
             return False

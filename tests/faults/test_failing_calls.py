@@ -126,7 +126,7 @@ class ImageFiles(FaultyPair):
                 with nodes.client() as client:
                     client.ask("DEL", "a", "b", "c", "h")
                 faults.refuse(kind, number, how=how)
-                has_ended = self.fail_once(nodes, node, faults, kind)
+                has_ended = self.fail_once(nodes, node, faults, kind, how in OF_IMAGES[kind])
                 found = "ended the node" if has_ended else "were made good" if faults.refused(kind) else "came too late"
                 self.assertFalse(has_ended and how in PASSING_OF_IMAGES[kind], found)
                 self.assertFalse(found == "were made good" and how in OF_IMAGES[kind], found)
@@ -135,15 +135,16 @@ class ImageFiles(FaultyPair):
         self.assert_same(nodes)
         nodes.close()
 
-    def fail_once(self, nodes, node, faults, kind):
-        """One client, and a node of whose image a call may fail, which is started again then: what was answered is there. Whether it ended."""
+    def fail_once(self, nodes, node, faults, kind, is_lasting):
+        """One client, and a node of whose image a call may fail, which is started again then: what was answered is there. Whether it ended, as it has to where that
+        is for good."""
         replies = []
         with nodes.client() as client:
             thread = threading.Thread(target=self.serve, args=[client, replies], daemon=True)
             thread.start()
             wait_until(lambda: not node.is_running() or not thread.is_alive(), "the end of the node or of the replies")
             # (one that fails while the last reply is on its way ends soon)
-            has_ended = not node.is_running() or bool(faults.refused(kind)) and self.ends_soon(node)
+            has_ended = not node.is_running() or bool(faults.refused(kind)) and self.ends_within(node, PATIENCE if is_lasting else 0.2)
             if has_ended:
                 self.assertEqual(self.ended(node), (FAILED, FAULT))
                 self.start_again(nodes, node, faults, kind)
@@ -154,9 +155,9 @@ class ImageFiles(FaultyPair):
         self.assert_holds(nodes, replies)
         return has_ended
 
-    def ends_soon(self, node):
+    def ends_within(self, node, seconds):
         with contextlib.suppress(TakesTooLong):
-            return wait_until(lambda: not node.is_running(), "the end of the node", 0.2)
+            return wait_until(lambda: not node.is_running(), "the end of the node", seconds)
         return False
 
     def start_again(self, nodes, node, faults, kind):

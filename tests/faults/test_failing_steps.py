@@ -8,13 +8,13 @@ import time
 
 import common
 from common import drawn, run_program, tell
-from faulty_pair import FAILED, FAULT, NO_MEMORY, FaultyPair, map_of, status_after
+from faulty_pair import ASKED_SECONDS, FAILED, FAULT, MOST_ASKED_SECONDS, NO_MEMORY, FaultyPair, map_of, status_after
 from pair import PATIENCE, Client, Ended
 from plain_image import MORE_LINES, PRIMARY, STANDBY
 from plain_replies import bulk
 from plain_starved import REFUSED
 from refused_calls import FOR_EVER, SHORT
-from test_failing_calls import name_of, rows_of
+from test_failing_calls import name_of
 from test_images import LINES
 
 PROGRAMS = ["server"]
@@ -34,8 +34,6 @@ WAYS_OF_NODES = WAYS_OF_IMAGES | {
 }
 # Those for which memory may be told.
 OF_MEMORY = ("memory", "thread")
-# How long a request waits before it is asked by another connection.
-PATIENCE_SECONDS = 0.5
 
 
 class Steps(FaultyPair):
@@ -188,14 +186,14 @@ class Openings(Steps):
 
     def ask_until_answered(self, nodes, node, faults, kind, how):
         """Counts on, by connections of their own, until one is answered. A node that ended is started again, once it said why. Whether it did."""
-        has_ended, end = False, time.monotonic() + PATIENCE
+        has_ended, end, seconds = False, time.monotonic() + PATIENCE, ASKED_SECONDS
         while time.monotonic() < end:
             if not node.is_running():
                 self.assertFalse(has_ended)
                 has_ended = True
                 self.assertEqual(faults.refused(kind), 1)
                 self.start_once_ended(nodes, node, kind, how)
-            with contextlib.suppress(Ended, OSError), Client(nodes.door.number, PATIENCE_SECONDS) as client:
+            with contextlib.suppress(Ended, OSError), Client(nodes.door.number, seconds) as client:
                 reply = client.ask("INCR", "count")
                 if reply == REFUSED:
                     self.is_told = True
@@ -205,6 +203,7 @@ class Openings(Steps):
                 self.counter = int(reply[1:])
                 return has_ended
             time.sleep(0.002)
+            seconds = min(1.2 * seconds, MOST_ASKED_SECONDS)
         raise common.TakesTooLong(f"nothing is answered: {nodes.primary.errors.read_bytes()!r}, {nodes.standby.errors.read_bytes()!r}")
 
     def start_once_ended(self, nodes, node, kind, how):

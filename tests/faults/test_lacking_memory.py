@@ -17,8 +17,8 @@ from spelling import spell
 PROGRAMS = ["server", "simulator"]
 IS_SLOW = True
 
-# How often all are tried at most.
-ROUNDS = 5
+# How often all are tried at most: what is refused differs from run to run, and more so on a busy machine.
+ROUNDS = 40
 
 
 class Requests(FaultyCases, Runs):

@@ -16,7 +16,7 @@ from plain_journal import file_of
 from plain_keyspace import Put
 from plain_writer import Writer
 from refused_calls import FOR_EVER, FaultyCases
-from test_images import FAILED, LINES, PASSING, image_bytes
+from test_images import FAILED, LINES, image_bytes
 
 PROGRAMS = ["server"]
 

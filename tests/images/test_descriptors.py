@@ -4,11 +4,11 @@ what they tell there would be written over an image, or into a socket."""
 import contextlib
 import os
 import pathlib
+import select
 import subprocess
-import time
 import tempfile
 
-from common import Cases, program, run_program
+from common import SECONDS, Cases, program, run_program
 from pair import Client, Port, wait_until
 from plain_image import PRIMARY, STANDBY
 from plain_journal import file_of
@@ -119,11 +119,12 @@ class Server(ClosedStreams):
                     client.send(asked)
                     self.assertEqual(client.read(len(wanted)), wanted)
                 # (what it tells is written by a thread of its own, which may come to it later)
-                time.sleep(0.2)
+                errors = b"" if ERRORS in streams else told_up_to(child, b"listening on")
             finally:
                 child.kill()
                 port.close()
-            output, errors = child.communicate()
+            output, more = child.communicate()
+            errors += more
         self.assertEqual(output, b"")
         self.assertEqual(b"listening on" in errors, ERRORS not in streams)
         self.assertEqual(run_program("server", ["inspect", "--image", str(path)]).status, DONE)
@@ -141,6 +142,14 @@ class Server(ClosedStreams):
                     finished = run_closed("server", words, streams)
                     self.assert_ended(finished, streams, MISUSED, b"")
                     self.assertEqual(b"Usage: wbl-server" in finished.errors, ERRORS not in streams)
+
+
+def told_up_to(child, words):
+    """What a process tells, up to these words at least."""
+    found = b""
+    while words not in found and select.select([child.stderr], [], [], SECONDS)[0] and (piece := os.read(child.stderr.fileno(), 65_536)):
+        found += piece
+    return found
 
 
 def connected(port, child):

@@ -3,7 +3,6 @@
 seen: while it asks, the image is as it was."""
 
 import os
-import pathlib
 import pty
 import select
 import subprocess

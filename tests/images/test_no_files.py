@@ -20,7 +20,7 @@ KEPT = 3
 ROWS = 11
 NOWHERE = "127.0.0.1:1"
 # How long a program takes at most that waits for nobody.
-SECONDS = 10 * common.BUSY
+SECONDS = 90 * common.BUSY
 COMMANDS = [
     ["inspect"], ["status"], ["format", "--lines", "4096", "--role", "primary"], ["promote", "--old-primary-stopped", "--at-least", "1"], ["migrate"],
     ["primary", "--listen", NOWHERE, "--link", NOWHERE], ["standby", "--listen", NOWHERE],

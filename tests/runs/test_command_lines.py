@@ -10,7 +10,7 @@ PROGRAMS = ["server", "client", "simulator"]
 
 MISUSED = 2
 # A program that waits for its input takes longer.
-SECONDS = 20 * common.BUSY
+SECONDS = 120 * common.BUSY
 
 IMAGE, LISTEN, LINK = ["--image", "none.img"], ["--listen", "127.0.0.1:1"], ["--link", "127.0.0.1:1"]
 FORMAT = ["--lines", "4096", "--role", "primary"]
