@@ -1,4 +1,4 @@
-use Rattle.std.proofs.Common.{sym, ap, subst, ◌∙◌}
+use Rattle.std.proofs.Common.{refl, sym, ap, subst, ◌∙◌}
 use Rattle.world.proofs.Words.{Contents, ExhaustsPromotion, IsBeforeOrPromoted, LeavesOnly, Node, node_at}
 use Rattle.follower.proofs.KeptLemmas.{CrashedIn, crashed-in}
 use Rattle.machine.specs.declared.event.Cut.TheVariants as cuts
