@@ -9,3 +9,11 @@ pub mod WireLemmas
 pub mod FrameLemmas
 pub mod StandbyLemmas
 pub mod ArrivalLemmas
+pub mod PutLemmas
+pub mod PageLemmas
+pub mod HalfLemmas
+pub mod NewcomerLemmas
+pub mod EndingLemmas
+pub mod NewcomerDownLemmas
+pub mod RowsLemmas
+pub mod CopiedLemmas

@@ -7,3 +7,6 @@ pub mod Link
 pub mod Following
 pub mod Standby
 pub mod Taking
+pub mod Pages
+pub mod Newcomer
+pub mod NewcomerDown

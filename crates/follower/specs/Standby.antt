@@ -1,5 +1,5 @@
 -- How the standby, and what waits for it, refine the machine's.
-use Rattle.std.specs.Prelude.{◌≡◌, ℕ, Bool, true, false, List, Vec}
+use Rattle.std.specs.Prelude.{◌≡◌, ℕ, Bool, true, false, List, [], ◌∷◌, None, Option, Some, Vec}
 use Rattle.follower.specs.Words.{Ack, Acknowledgement, Applies, Apply, Call, Contents, cut_at, EntryNo, Follows, Frame, Global, Holder, keyspace_after, may_happen, records, Remains, Room, Sent, State, Table, World, EngineStands}
 use Rattle.std.specs.declared.collections.VecDeque.{VecDeque}
 use Rattle.model.specs.declared.record.Role.TheVariants as Role
@@ -44,6 +44,11 @@ pub record StandbyRefines (holder : Holder) (epoch : ℕ) (calls : List Call) (p
 -- what an acknowledgement tells
 abbrev pub told_by : Ack → Acknowledgement
 told_by ack = record { epoch = ack.epoch; position = ack.position }
+
+-- what none or one of them tells
+abbrev pub acks_told : Option Ack → List Acknowledgement
+acks_told None = []
+acks_told (Some ack) = told_by ack ∷ []
 
 -- the frames that came to the standby and were not taken, and the bytes of the acknowledgements that it made
 pub record Arrived : Type 0 where

@@ -150,7 +150,7 @@ pub fn acknowledge(
 }
 
 /// Whether a standby that refused a frame with this refusal goes on. It is as it was, perhaps without what had ended.
-fn goes_on(refusal: Refusal) -> bool
+pub(crate) fn goes_on(refusal: Refusal) -> bool
     ensures { IsTrue result ↔ ((refusal ≡ Refusal.Full) ⊎ (refusal ≡ Refusal.PositionGap) ⊎ (refusal ≡ Refusal.WrongEpoch)) }
 {
     matches!(

@@ -153,6 +153,7 @@ module _ {E K D : Type 0} (device : E → State) (contents : E → Contents) (is
           state = inr (inr (record {
             own = own;
             taken = taken_of copy;
+            counters = room;
             broken = record {
               cause = fault;
               faulted = broken.faulted;
@@ -172,9 +173,9 @@ module _ {E K D : Type 0} (device : E → State) (contents : E → Contents) (is
         taken_of (inr none) = inr none.0
 
   -- what there was of another copy could not be dropped
-  pub Ends-uncleared : (end : CopyEnd) (old new : Newcomer E K D) (refusal : Refusal) → end.epoch ≡ (contents old.engine).current.epoch → end.parts ≡ 0
+  pub Ends-uncleared : (end : CopyEnd) (old new : Newcomer E K D) (refusal : Refusal) → end.epoch ≡ (contents old.engine).current.epoch → end.parts ≡ 0 → ¬ ExhaustsCopy (contents old.engine).current end.position
       → Clears device contents is_faulted staged table old (Err refusal) new → EndsCopy device contents is_faulted staged table end old (Err refusal) new
-  Ends-uncleared end old new refusal own none clears = elim clears.causes [
+  Ends-uncleared end old new refusal own none room clears = elim clears.causes [
     | inl memory ↦ inr (record {
       refusal = refusal;
       answer = refl;
@@ -188,6 +189,7 @@ module _ {E K D : Type 0} (device : E → State) (contents : E → Contents) (is
           state = inr (inr (record {
             own = own;
             taken = inr none;
+            counters = room;
             broken = record {
               cause = fault;
               faulted = broken.faulted;

@@ -236,6 +236,7 @@ module _ {E K D : Type 0} (device : E → State) (contents : E → Contents) (is
   pub record BreaksAtEnd (end : CopyEnd) (old : Newcomer E K D) (refusal : Refusal) (new : Newcomer E K D) : Type 0 where
     pub own : end.epoch ≡ (contents old.engine).current.epoch
     pub taken : IsEndTaken old.half end
+    pub counters : ¬ ExhaustsCopy (contents old.engine).current end.position
     pub broken : BreaksCopy old refusal new
     pub copy : Versions
     pub copy_is : (HasAll old.half end.position end.parts × (copy ≡ staged old.engine)) ⊎ ((end.parts ≡ 0) × ((i : ℕ) → copy i ≡ None))

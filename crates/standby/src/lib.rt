@@ -17,6 +17,7 @@ mod opening;
 mod part;
 mod planning;
 mod restarting;
+mod restarting_newcomer;
 mod rising;
 mod room;
 mod spare;

@@ -22,9 +22,10 @@ drop_half-requires g c = c.requires.awaits
 pub returns-in_err-drop_half : goal.returns-in_err-drop_half
 returns-in_err-drop_half g c =
     let exit = err_from_is_err_and c.from_residual.result c.from_residual.ensures.1 in
+    let room = subst (λ (r : Record). ¬ ExhaustsCopy r c.args.end.position) c.record.ensures (denied false c.if-exhausts_copy.ensures refl) in
     rw (exit.1 ∙ ap Err exit.2)
     (Ends-uncleared g.E.Durable.device g.E.Durable.contents g.E.Durable.is_faulted g.E.Durable.staged g.K.Keyspace.table c.args.end c.args.self.now c.drop_half.new.self c.in_err-drop_half.field-0.0 c.requires.own
-    c.requires.none c.in_err-drop_half.ensures)
+    c.requires.none room c.in_err-drop_half.ensures)
 
 pub complete-requires-clause-awaits : goal.complete-requires-clause-awaits
 complete-requires-clause-awaits g c =
