@@ -4,11 +4,11 @@ use Rattle.std.proofs.lemmas.List.{length-append}
 use Rattle.follower.specs.Words.{Call, Contents, cut_at, entries_of, EntryNo, Exhausted, ExhaustsReopening, HasRecord, Holder, Holds, Image, image_of, IsDurable, IsImage, IsMapOf, IsSettled, IsUndamaged, Keeps, keyspace_after, layout_in, LeavesOnly, Memory, position_of, Record, Refusal, RefusesReopening, State, StaysReadable, Word, AreContentsAt, EngineStands}
 use Rattle.follower.proofs.Words.{AreContentsAt-grows, entries_same, HasRecord-lines, Holds-versions, lawful_undamaged, LeavesOnly-weaken}
 use Rattle.pmem.proofs.Staging.{IsImage-settled}
+use Rattle.model.specs.declared.layout.Layout.{Layout}
+use Rattle.model.specs.declared.record.Role.{Role}
 use Rattle.model.specs.Image.{entries_of_lines}
 use Rattle.model.proofs.MapLemmas.{IsMapOf-same}
 use Rattle.wbl_engine.specs.Reopening.{KeepsThrough, Reopens, open_gap, reopened, with_room}
-use Rattle.model.specs.declared.layout.Layout.{Layout}
-use Rattle.model.specs.declared.record.Role.{Role}
 use Rattle.wbl_engine.proofs.ReopeningLaws.{keeps_through, lawful_refusal, reopening_lawful}
 use Rattle.wbl_engine.proofs.ReadingLemmas.{layout_in_is}
 use Rattle.wbl_engine.proofs.RoomLemmas.{room_cases, room_layout}
@@ -25,6 +25,28 @@ settled-image words image settled is =
     grind arith
 
 -- ---- a crash
+
+-- an engine over the list of calls that crashes leaves its image, with the contents that it had
+abbrev pub down-crashed : (holder : Holder) (calls : List Call) (p : ℕ) (device device' : State) (contents : Contents) (is_faulted : Bool) → EngineStands holder calls p device contents is_faulted
+    → contents.lines ≡ device.lines → IsSettled device'.words → IsImage device.words (image_of device'.words) → device'.lines ≡ device.lines → IsDown holder calls p device'
+down-crashed holder calls p device device' contents is_faulted stands sized settled is lines =
+    record {
+      contents = contents;
+      contents_at = stands.contents_at;
+      lawful = stands.lawful;
+      keeps = stands.durable (image_of device'.words) is;
+      settled = settled;
+      sized = sized ∙ sym lines;
+    }
+
+-- the crash leaves its node where it stood
+pub crash-moves : (holder : Holder) (calls : List Call) (p : ℕ) (device device' : State) (contents : Contents) (is_faulted : Bool) → EngineStands holder calls p device contents is_faulted
+    → LeavesOnly device device' (IsImage device.words) → device'.failures ≡ device.failures → Moves holder calls p p device device'
+crash-moves holder calls p device device' contents is_faulted stands moments failures =
+    record {
+      leaves = LeavesOnly-weaken (OpensAtEither holder calls p p) (λ image is. inl (Opens-engine holder calls p device contents is_faulted stands image is)) moments;
+      failures = failures;
+    }
 
 -- while the node is crashed, its image stands where it stood
 pub Opens-down : (holder : Holder) (calls : List Call) (p : ℕ) (device : State) → IsDown holder calls p device → Opens holder calls p device

@@ -10,7 +10,7 @@ use Rattle.world.proofs.LivesLemmas.{running-as, serves-as, serving}
 use Rattle.world.proofs.OneGroupLemmas.{takes-one, TakesGroup}
 use Rattle.world.proofs.PairClearing.{clear-left}
 use Rattle.world.proofs.PairCrash.{crash-idle}
-use Rattle.world.proofs.PairCut.{cut-drops, CutIn}
+use Rattle.world.proofs.PairCut.{HasDropped, cut-drops, CutIn}
 use Rattle.world.proofs.PairFreeing.{free-left}
 use Rattle.world.proofs.PairLemmas.{back-stands}
 use Rattle.world.proofs.PairTurns.{commit-left, link_room, pair_of, pair_with, Took, took-step}

@@ -1,5 +1,5 @@
 use Rattle.std.proofs.Common.{ap, subst, sym}
-use Rattle.world.proofs.Words.{FormattingOnly, Primary, Standby, State, UnformedBy}
+use Rattle.world.proofs.Words.{FormattingOnly, new_holder, Primary, Standby, State, UnformedBy}
 use Rattle.world.proofs.FormLemmas.{formatting-none}
 use Rattle.world.proofs.RunningLemmas.{keeps-played, keeps-unplayed, plays-on}
 use Rattle.world.proofs.playing.play_over.Goals as goal
@@ -17,7 +17,7 @@ pub returns-in-Ok-open : goal.returns-in-Ok-open
 returns-in-Ok-open g c =
     let formatting = c.in-Ok-open.ensures.moments in
     keeps-played _ _ _ _ _ _ formatting.0 formatting.1
-    (plays-on _ _ _ _ _ _ _ _ _ (c.into_devices-primary.ensures.primary c.play-ended.new.history) (c.into_devices-primary.ensures.standby c.play-ended.new.history)
+    (plays-on (new_holder (g.P.Pmem.state c.args.primary).lines Primary) (new_holder (g.P.Pmem.state c.args.standby).lines Standby) _ _ _ _ _ _ _ (c.into_devices-primary.ensures.primary c.play-ended.new.history) (c.into_devices-primary.ensures.standby c.play-ended.new.history)
     (c.play-ended.ensures _ _ c.in-Ok-open.ensures.stands))
 
 pub returns-in-Err-open : goal.returns-in-Err-open

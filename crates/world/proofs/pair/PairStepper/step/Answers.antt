@@ -17,13 +17,13 @@ returns-in-Enter g c = own-is c.in-Enter.is c.takes_part.ensures c.if-not-takes_
 pub returns-in-Feed : goal.returns-in-Feed
 returns-in-Feed g c =
     own-is c.in-Feed.is c.takes_part.ensures c.if-not-takes_part.false (λ runs. runs)
-    (sessions-do (events.Feed c.in-Feed.c.now c.in-Feed.piece.now) (λ machines. may_feed machines c.in-Feed.c.now) (changed_at c.in-Feed.c.now (with_inbound (fed_with c.in-Feed.piece.now))) (record { own = refl; plain = refl; may = λ w. refl; happens = λ w. refl }) refl _ _ c.feed.result
+    (sessions-do (events.Feed c.in-Feed.c c.in-Feed.piece) (λ machines. may_feed machines c.in-Feed.c) (changed_at c.in-Feed.c (with_inbound (fed_with c.in-Feed.piece))) (record { own = refl; plain = refl; may = λ w. refl; happens = λ w. refl }) refl _ _ c.feed.result
     (c.feed.ensures.goes c.args.history.now.transcript) (on_err_from c.feed.result (tells _)) c.feed.ensures.cause (c.feed.ensures.enabled c.args.history.now.transcript) c.feed.ensures.seats refl) (record { primary = λ idle. refl; standby = λ idle. refl; frames = refl; acknowledgements = refl; effect = tt })
 
 pub returns-in-Offer : goal.returns-in-Offer
 returns-in-Offer g c =
     own-is c.in-Offer.is c.takes_part.ensures c.if-not-takes_part.false (λ runs. runs)
-    (sessions-do (events.Offer c.in-Offer.c.now) (λ machines. may_offer machines c.in-Offer.c.now) (changed_at c.in-Offer.c.now (with_inbound offered_next)) (record { own = refl; plain = refl; may = λ w. refl; happens = λ w. refl }) refl _ _ c.offer.result
+    (sessions-do (events.Offer c.in-Offer.c) (λ machines. may_offer machines c.in-Offer.c) (changed_at c.in-Offer.c (with_inbound offered_next)) (record { own = refl; plain = refl; may = λ w. refl; happens = λ w. refl }) refl _ _ c.offer.result
     (c.offer.ensures.goes c.args.history.now.transcript) (on_err_from c.offer.result (tells _)) c.offer.ensures.cause (c.offer.ensures.enabled c.args.history.now.transcript) c.offer.ensures.seats refl) (record { primary = λ idle. refl; standby = λ idle. refl; frames = refl; acknowledgements = refl; effect = tt })
 
 pub returns-in-Turn : goal.returns-in-Turn
@@ -76,7 +76,7 @@ returns-in-SendCopy g c = own-is c.in-SendCopy.is c.takes_part.ensures c.if-not-
 pub returns-in-Hold : goal.returns-in-Hold
 returns-in-Hold g c =
     own-is c.in-Hold.is c.takes_part.ensures c.if-not-takes_part.false (λ runs. runs)
-    (sessions-do (events.Hold c.in-Hold.c.now) (λ machines. may_hold machines c.in-Hold.c.now) (changed_at c.in-Hold.c.now (with_outbound held_first)) (record { own = refl; plain = refl; may = λ w. refl; happens = λ w. refl }) refl _ _ c.hold.result
+    (sessions-do (events.Hold c.in-Hold.c) (λ machines. may_hold machines c.in-Hold.c) (changed_at c.in-Hold.c (with_outbound held_first)) (record { own = refl; plain = refl; may = λ w. refl; happens = λ w. refl }) refl _ _ c.hold.result
     c.hold.ensures.goes (on_err_from c.hold.result (tells _)) c.hold.ensures.cause c.hold.ensures.enabled c.hold.ensures.seats refl) (record { primary = λ idle. refl; standby = λ idle. refl; frames = refl; acknowledgements = refl; effect = tt })
 
 pub returns-in-Read : goal.returns-in-Read
@@ -85,19 +85,19 @@ returns-in-Read g c = own-is c.in-Read.is c.takes_part.ensures c.if-not-takes_pa
 pub returns-in-Release : goal.returns-in-Release
 returns-in-Release g c =
     own-is c.in-Release.is c.takes_part.ensures c.if-not-takes_part.false (λ runs. runs)
-    (sessions-did (events.Release c.in-Release.c.now) (λ machines. may_release machines c.in-Release.c.now) (changed_at c.in-Release.c.now (with_outbound having_released)) (record { own = refl; plain = refl; may = λ w. refl; happens = λ w. refl }) _ c.release.new.self c.release.result
+    (sessions-did (events.Release c.in-Release.c) (λ machines. may_release machines c.in-Release.c) (changed_at c.in-Release.c (with_outbound having_released)) (record { own = refl; plain = refl; may = λ w. refl; happens = λ w. refl }) _ c.release.new.self c.release.result
     (c.release.ensures.goes c.args.history.now.transcript) c.release.ensures.seats) (record { primary = λ idle. refl; standby = λ idle. refl; frames = refl; acknowledgements = refl; effect = tt })
 
 pub returns-in-Write : goal.returns-in-Write
 returns-in-Write g c =
     own-is c.in-Write.is c.takes_part.ensures c.if-not-takes_part.false (λ runs. runs)
-    (sessions-do (events.Write c.in-Write.c.now c.in-Write.n.now) (λ machines. may_write machines c.in-Write.c.now c.in-Write.n.now) (changed_at c.in-Write.c.now (with_outbound (written c.in-Write.n.now))) (record { own = refl; plain = refl; may = λ w. refl; happens = λ w. refl }) refl _ _ c.write.result
+    (sessions-do (events.Write c.in-Write.c c.in-Write.n) (λ machines. may_write machines c.in-Write.c c.in-Write.n) (changed_at c.in-Write.c (with_outbound (written c.in-Write.n))) (record { own = refl; plain = refl; may = λ w. refl; happens = λ w. refl }) refl _ _ c.write.result
     c.write.ensures.goes c.write.ensures.told c.write.ensures.cause c.write.ensures.enabled c.write.ensures.seats c.write.ensures.calls) (record { primary = λ idle. refl; standby = λ idle. refl; frames = refl; acknowledgements = refl; effect = tt })
 
 pub returns-in-Leave : goal.returns-in-Leave
 returns-in-Leave g c =
     own-is c.in-Leave.is c.takes_part.ensures c.if-not-takes_part.false (λ runs. runs)
-    (leave-does _ c.leave.new.self c.leave.new.front.sequencer c.in-Leave.c.now c.leave.result (c.leave.ensures.goes c.args.history.now.transcript) (c.leave.ensures.follow c.args.history.now.transcript) c.leave.ensures.sequencer c.leave.ensures.stands) (record { primary = λ idle. refl; standby = λ idle. refl; frames = refl; acknowledgements = refl; effect = tt })
+    (leave-does _ c.leave.new.self c.leave.new.front.sequencer c.in-Leave.c c.leave.result (c.leave.ensures.goes c.args.history.now.transcript) (c.leave.ensures.follow c.args.history.now.transcript) c.leave.ensures.sequencer c.leave.ensures.stands) (record { primary = λ idle. refl; standby = λ idle. refl; frames = refl; acknowledgements = refl; effect = tt })
 
 pub returns-in-OpenLink : goal.returns-in-OpenLink
 returns-in-OpenLink g c = own-is c.in-OpenLink.is c.takes_part.ensures c.if-not-takes_part.false (λ both. (and_parts (runs c.args.self.now.primary_condition) (runs c.args.self.now.standby_condition) both).0) c.open_link.ensures.does c.open_link.ensures.leaves
