@@ -362,12 +362,21 @@ class Refusing(Copying):
             self.assertIn(b"left the link: refusal 5: full: ", told)
 
     def test_a_standby(self):
-        """It has its copy: it is told none on a link that it did not ask for one on."""
+        """It has its copy: what comes late of that changes nothing, and its end is acknowledged by where it is, as often as it comes. What is of a later position, or of
+        another epoch, ends the link."""
         with self.folder() as folder:
             path = self.made(folder, new().words)
             with Node(path) as node:
                 self.assert_bytes(node.exchange(part(0, PART) + end(1)), wanted() + ack(2))
-                for data in (part(0, PART), end(1), wanted()):
+                for data, answers in [
+                    (part(0, PART), b""), (part(7, [THIRD], 1), b""), (part(0, PART) + part(1, [THIRD]) + end(2), ack(2)), (end(1) + end(1), 2 * ack(2)),
+                    (end(5, 1), ack(2)), (end(0, 0), ack(2)),
+                ]:
+                    self.assert_bytes(node.exchange(data), ack(2) + answers)
+                for data, refusal in [
+                    (part(0, PART, 3), GAP), (end(1, 3), GAP), (part(0, PART, epoch=2), EPOCH), (end(1, epoch=3), EPOCH), (wanted(), FRAME),
+                ]:
                     self.assert_bytes(node.exchange(data), ack(2))
+                    self.assertIn(LEFT % refusal, self.told(node))
                 self.assert_copied(path, 2, MAP)
-                self.assertIn(LEFT % FRAME, self.told(node))
+                self.assert_bytes(node.exchange(part(0, PART) + text(Group(1, 2, 3, (THIRD,))) + end(1)), ack(2) + ack(3) + ack(3))

@@ -3,13 +3,15 @@ a copy while commands go on, and replies that waited come with its end, none bef
 
 import re
 import shutil
+import socket
 import threading
 import time
 
 import common
-from pair import Port, inspected, wait_until
+from copy_link import Frames
+from pair import HOST, Port, inspected, number_in, wait_until
 from plain_replies import NULL_BULK, OK, bulk, integer
-from plain_wire import MOST_PART, MOST_VALUE
+from plain_wire import COPY_END, MOST_PART, MOST_VALUE, Acknowledgement, CopyWanted, Greeting, text
 from replacing import LONG, Replacing, put_bytes
 from spelling import spell
 from test_starved import SECONDS, limit_memory
@@ -17,6 +19,8 @@ from worked_cases import STORE_IS_FULL
 
 PROGRAMS = ["server"]
 IS_SLOW = True
+# What a primary tells of a standby that is ahead.
+AHEAD = b" standby ahead: this node takes no acknowledgement"
 QUICK = ["Copied.test_the_worked_copy", "Waiting.test_writers_that_are_blocked"]
 
 
@@ -269,8 +273,9 @@ class Others(Replacing):
         self.assertEqual(self.assert_equal(), self.changes)
 
     def test_a_primary_that_found_a_standby_ahead(self):
-        """It opens no link any more; started again, it answers what waits once a newcomer stands there."""
-        self.fill({"a": b"1"})
+        """It says so once, takes nothing of it and dials on: what waits is answered once a newcomer that stands there has its copy. While that is half, the
+        standby that was ahead is refused again, though the primary has come to hold as much."""
+        self.fill(LONG)
         self.nodes.primary.end()
         shutil.copy(self.nodes.primary.image, self.nodes.folder / "older.img")
         self.start(self.nodes.primary)
@@ -278,15 +283,31 @@ class Others(Replacing):
         self.nodes.primary.end()
         shutil.copy(self.nodes.folder / "older.img", self.nodes.primary.image)
         self.start(self.nodes.primary)
-        self.wait_for_line(self.nodes.primary, b"standby ahead: ")
-        self.lose_standby()
-        self.nodes.primary.end()
-        self.start(self.nodes.primary)
+        self.changes -= 1
+        self.wait_for_line(self.nodes.primary, AHEAD)
+        ahead, port = self.nodes.standby, Port()
+        self.addCleanup(port.close)
         with self.nodes.client() as client:
-            client.send(spell("GET", "b") + spell("SET", "c", "3"))
-            self.assert_silent([client], 0.5)
+            client.send(spell("GET", "b") + b"".join(spell("SET", "c", str(number)) for number in range(9)))
+            self.assert_silent([client], 3)
+            self.assertEqual(self.told(self.nodes.primary).count(AHEAD), 1)
+            new = self.newcomer(port=port)
+            self.start(new)
+            self.between.hold("parts")
+            self.between.standby = port.number
+            self.between.wait()
+            wait_until(lambda: self.position() == self.changes + 9, "groups that are committed")
+            new.end()
+            self.between.standby = self.nodes.link.number
+            self.between.release()
+            self.between.cut()
+            wait_until(lambda: self.told(self.nodes.primary).count(AHEAD) == 2, "a standby that is found ahead again")
+            self.assert_silent([client], 3)
+            self.assertEqual(self.told(self.nodes.primary).count(AHEAD), 2)
+            ahead.end()
             self.put_newcomer()
-            self.assertEqual((client.reply(), client.reply()), (NULL_BULK, OK))
+            self.assertEqual([client.reply() for _ in range(10)], [NULL_BULK] + 9 * [OK])
+            self.changes += 9
         self.finish()
 
     def test_a_late_copy(self):
@@ -307,7 +328,6 @@ class Others(Replacing):
             self.assertEqual(inspected(self.nodes.standby.image)["position"], self.changes)
             self.between.is_deaf = False
         self.finish()
-
 
     def test_a_primary_that_is_lost_in_a_copy(self):
         """The newcomer is not promoted, and the old standby's image, which was kept, is as good as ever."""
@@ -364,12 +384,97 @@ class Told(Replacing):
         self.put_newcomer()
         self.wait_for_copy()
         address = re.escape(self.between.port.address())
-        text = self.told(self.nodes.primary).decode()
+        told = self.told(self.nodes.primary).decode()
         wanted = [rf"link open to {address}: a newcomer, which wants a copy", rf"copy of position 3 for {address} begun(?:, with 3 keys)?: [^\n]+",
                   rf"copy of position 3 taken by {address} in \d+ seconds: it is the standby now, [^\n]+"]
-        self.assertRegex(text, r"\n(?:[^\n]+\n)*?".join(wanted))
-        text = self.told(self.nodes.standby).decode()
-        self.assertRegex(text, r"has no copy yet: [^\n]+\ncopy of position 3 begun\ncopy of position 3 taken in \d+ seconds, with 3 keys: this node is a standby now\n")
+        self.assertRegex(told, r"\n(?:[^\n]+\n)*?".join(wanted))
+        told = self.told(self.nodes.standby).decode()
+        self.assertRegex(told, r"has no copy yet: [^\n]+\ncopy of position 3 begun\ncopy of position 3 taken in \d+ seconds, with 3 keys: this node is a standby now\n")
+
+    def test_a_newcomer_that_leaves(self):
+        """What it acknowledged is lost with its link, which is told; once it is back, that it has its copy."""
+        self.fill(LONG)
+        self.lose_standby()
+        self.between.hold("end taken")
+        self.put_newcomer()
+        self.between.wait()
+        self.between.cut()
+        self.between.release()
+        self.wait_for_line(self.nodes.primary, b"it is the standby now")
+        address = re.escape(self.between.port.address())
+        lines = [rf"(?:copy of position 3 taken by {address} [^\n]+)", rf"(?:link to {address} lost: [^\n]+)"]
+        told = re.findall("|".join(lines), self.told(self.nodes.primary).decode())
+        # (the first link was the standby's)
+        self.assertEqual([line.split()[0] for line in told], ["link", "link", "copy"])
+        self.finish()
+
+    def test_a_newcomer_that_leaves_behind_its_acknowledgement(self):
+        """Both come at once: it is told as taken first."""
+        self.fill({"a": b"1"})
+        self.lose_standby()
+        greeting = text(Greeting(number_in(self.nodes.primary.image)))
+        with socket.create_server((HOST, 0)) as door:
+            self.between.standby = door.getsockname()[1]
+            newcomer, _ = door.accept()
+            with newcomer:
+                newcomer.sendall(greeting + text(CopyWanted(1)))
+                for data in Frames(newcomer):
+                    if data[0] == COPY_END:
+                        newcomer.sendall(text(Acknowledgement(1, 1)))
+                        break
+            self.between.is_deaf = True
+        self.wait_for_line(self.nodes.primary, b"no link to ")
+        wait_until(lambda: self.told(self.nodes.primary).count(b" lost: ") == 2, "a link that is lost")
+        told = self.told(self.nodes.primary)
+        self.assertLess(told.index(b"it is the standby now"), told.rindex(b" lost: "))
+        self.between.is_deaf, self.between.standby = False, self.nodes.link.number
+
+    def test_an_acknowledgement_below_the_pin(self):
+        """It ends no copy, though the lost standby had acknowledged the position of the pin, and nothing is answered or sent by it."""
+        self.fill({"a": b"1"})
+        self.lose_standby()
+        with self.nodes.client() as client, socket.create_server((HOST, 0)) as door:
+            self.between.standby = door.getsockname()[1]
+            newcomer, _ = door.accept()
+            with newcomer:
+                newcomer.sendall(text(Greeting(number_in(self.nodes.primary.image))) + text(CopyWanted(1)))
+                come = iter(Frames(newcomer))
+                while next(come)[0] != COPY_END:
+                    pass
+                newcomer.sendall(text(Acknowledgement(1, 0)))
+                client.send(spell("SET", "a", "2"))
+                self.assert_silent([client], 1)
+                newcomer.setblocking(False)
+                with self.assertRaises(BlockingIOError):
+                    newcomer.recv(1)
+                self.assertNotIn(b"it is the standby now", self.told(self.nodes.primary))
+            self.between.standby = self.nodes.link.number
+            self.put_newcomer()
+            self.assertEqual(client.reply(), OK)
+        self.changes += 1
+        self.finish()
+
+    def test_newcomers_that_leave_before_a_copy_is_pinned(self):
+        """The next one gets a copy of its own, with more groups on their way than a link keeps."""
+        self.fill({"a": b"1"})
+        self.lose_standby()
+        clients = [self.nodes.client() for _ in range(120)]
+        for number, client in enumerate(clients):
+            data = b"".join(spell("SET", f"a{number}", f"{at}") for at in range(400))
+            threading.Thread(target=client.send, args=(data,), daemon=True).start()
+        self.assert_silent(clients, 1)
+        with socket.create_server((HOST, 0)) as door:
+            self.between.standby = door.getsockname()[1]
+            for _ in range(3):
+                newcomer, _ = door.accept()
+                with newcomer:
+                    newcomer.sendall(text(Greeting(number_in(self.nodes.primary.image))) + text(CopyWanted(1)))
+                    newcomer.recv(17)
+                    time.sleep(0.01)
+            self.between.standby = self.nodes.link.number
+        self.put_newcomer()
+        self.assert_replies(clients, 400)
+        self.assert_equal()
 
     def test_a_standby_that_comes_back(self):
         """With its image, while the copy of a newcomer in its place is held: the copy is given up, and nothing was lost meanwhile."""

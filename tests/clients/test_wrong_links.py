@@ -2,7 +2,6 @@
 and hosts whose links are not taken (docs/server.md)."""
 
 import contextlib
-import select
 import socket
 import threading
 
@@ -24,7 +23,7 @@ IS_SLOW = True
 # An image of 64 MB.
 LARGE = 2**20
 SET_REQUEST = spell("SET", "a", "1")
-AHEAD = b"standby ahead: this node takes no acknowledgement any more"
+AHEAD = b" standby ahead: this node takes no acknowledgement"
 # A change whose value has 65,536 bytes, of which some are left out.
 BEGUN_CHANGE = b"\1" + len(b"key").to_bytes(2, "big") + b"key" + (65_536).to_bytes(4, "big") + 1_000 * b"v"
 
@@ -42,11 +41,6 @@ def lines_with(path, words):
 class WrongNodes(ServingCases):
     """A pair of which one node is another than it was."""
 
-    def assert_tells(self, errors, words, client):
-        """The node says this at least three times, and meanwhile nothing is answered to the client."""
-        wait_until(lambda: lines_with(errors, words) >= 3 or not client.is_silent(0), "a node that tells")
-        self.assertTrue(client.is_silent(0), "something was answered")
-
     def test_a_standby_that_was_ahead(self):
         """Once it was, nothing that it acknowledges counts, also where this node has come to hold as much: no write is answered that it does not hold."""
         self.assert_serves(5)
@@ -61,7 +55,8 @@ class WrongNodes(ServingCases):
         wait_until(lambda: b"standby ahead" in errors.read_bytes(), "a refused standby")
         client = self.nodes.client()
         client.send(b"".join(spell("SET", "a", f"{at}") for at in range(100)))
-        self.assert_tells(errors, AHEAD, client)
+        self.assertTrue(client.is_silent(5), "something was answered")
+        self.assertEqual(lines_with(errors, AHEAD), 1)
         self.assertTrue(self.nodes.primary.is_running())
         # it is another run that asks anew
         self.nodes.primary.end()
@@ -76,22 +71,25 @@ class WrongNodes(ServingCases):
 class FakeStandby(PairCases):
     """A primary whose standby is this test."""
 
-    def test_a_standby_that_was_ahead_is_dialed_no_more(self):
+    def test_a_standby_that_was_ahead_is_dialed_again(self):
+        """It is refused each time, at each position, with one line for all, and nothing is sent to it."""
         nodes = self.pair()
         nodes.end()
         nodes.primary.format(LINES)
         listener = self.listener(nodes.link)
         nodes.primary.start()
-        link = self.accepted(listener)
-        link.sendall(text(Acknowledgement(1, 5)))
-        self.assertEqual(link.recv(1), b"")
-        wait_until(nodes.primary.is_listening, "a primary that listens")
-        client = nodes.client()
-        client.send(b"".join(spell("SET", "a", f"{at}") for at in range(5)))
         self.addCleanup(listener.close)
-        errors = nodes.primary.errors
-        wait_until(lambda: lines_with(errors, AHEAD) >= 3 or select.select([listener], [], [], 0)[0], "a node that tells or dials")
-        self.assertFalse(select.select([listener], [], [], 0)[0], "it dialed again")
+        client = None
+        for position in (5, 5, 0, 1, 7):
+            link = self.accepted(listener)
+            link.sendall(text(Acknowledgement(1, position)))
+            self.assertEqual(link.recv(1), b"")
+            link.close()
+            if not client:
+                wait_until(nodes.primary.is_listening, "a primary that listens")
+                client = nodes.client()
+                client.send(b"".join(spell("SET", "a", f"{at}") for at in range(5)))
+        self.assertEqual(lines_with(nodes.primary.errors, AHEAD), 1)
         self.assertTrue(client.is_silent(0))
 
     def test_a_standby_that_takes_nothing(self):

@@ -18,9 +18,10 @@ use Rattle.standby_stream.specs.declared.outgoing.Outgoing.{Outgoing}
 use Rattle.links.specs.declared.opened.Peer.{Peer}
 use Rattle.links.specs.declared.opened.Peer.TheVariants.{Standby, Newcomer}
 use Rattle.links.specs.declared.receiver.AckReceiver.{AckReceiver}
-use Rattle.links.specs.declared.standing.Standing.TheVariants.{Behind}
 use Rattle.links.specs.Hearing.{HasHeardBehind, Takes}
-use Rattle.links.specs.Opening.{HearsLink, unopened, unawaited, opened, awaited, Opens, OpensOrAwaits, OpensTo, Reopens, Says}
+use Rattle.links.specs.Opening.{HearsLink, unopened, unawaited, opened, awaited, MayOpen, Opens, OpensOrAwaits, OpensTo, Reopens, Says}
+use Rattle.links.specs.Standing.{found_anew}
+use Rattle.links.proofs.Apart.{behind-anew}
 use Rattle.links.proofs.Serving.{Consumes-join, Consumes-none}
 
 -- of these messages as much is read
@@ -79,7 +80,7 @@ Reopens-by done position old new behind forgotten level level_aside kept = recor
         ⊎_elim (λ (behind_it : position < old.link.known). let refused = forgotten behind_it (omega (arith, within, behind_it)) in absurd cc)
         (λ (known : old.link.known ≤ position). known) (cases_lt position old.link.known)
 
-pub Opens-by : (ack : Ack) (position noted : ℕ) (receiver hearing : AckReceiver) (old middle new : Outgoing) → position ≡ ack.position → noted ≡ ack.position → Takes receiver ack hearing
+pub Opens-by : (ack : Ack) (position noted : ℕ) (receiver hearing : AckReceiver) (old middle new : Outgoing) → position ≡ ack.position → noted ≡ ack.position → Takes (found_anew receiver) ack hearing
     → Reopens position old middle → Notes noted middle new → Opens ack receiver hearing old new
 Opens-by ack position noted receiver hearing old middle new at again takes reopens notes = record {
   takes = takes;
@@ -106,8 +107,8 @@ pub OpensOrAwaits-by : (bytes left : Option (List ℕ)) (peer : Peer) (held : Op
 OpensOrAwaits-by bytes left (Standby position) held receiver hearing old new opens = inl (opens.0, opens.3)
 OpensOrAwaits-by bytes left Newcomer held receiver hearing old new opens = inr (opens.0, opens.2)
 
--- no link opens once a standby was ahead
+-- no link opens to a standby once one was ahead that nobody has replaced
 pub OpensTo-behind : (bytes left : Option (List ℕ)) (peer : Peer) (held : Option (List ℕ)) (receiver hearing : AckReceiver) (old new : Outgoing)
-    → OpensTo bytes left peer held receiver hearing old new → receiver.standing ≡ Behind
-OpensTo-behind bytes left (Standby position) held receiver hearing old new opens = opens.3.takes.was_behind
-OpensTo-behind bytes left Newcomer held receiver hearing old new opens = opens.2.hears.was_behind
+    → OpensTo bytes left peer held receiver hearing old new → MayOpen peer receiver
+OpensTo-behind bytes left (Standby position) held receiver hearing old new opens = behind-anew receiver.standing opens.3.takes.was_not_ahead
+OpensTo-behind bytes left Newcomer held receiver hearing old new opens = tt

@@ -1,6 +1,6 @@
 -- What a newcomer was given so far, and what was written of it.
-use Rattle.std.proofs.Common.{◌≡◌, ◌⊎◌, inl, inr, ◌<◌, ◌≤◌, ⊎_elim, true≢false, arith, length, Result, Ok, ℕ, Bool, true, false, List, [], ◌∷◌, ◌++◌, Option, Some, None, OnOk, if◌then◌else◌, refl, sym, ap, subst, ◌∙◌, append-nil, append_assoc}
-use Rattle.std.proofs.lemmas.Bool.{cases_lt}
+use Rattle.std.proofs.Common.{◌≡◌, ◌⊎◌, inl, inr, ◌<◌, ◌≤◌, ⊎_elim, true≢false, arith, length, Result, Ok, ℕ, Bool, true, false, List, [], ◌∷◌, ◌++◌, Option, Some, None, IfSome, nat_le, if◌then◌else◌, refl, sym, ap, subst, ◌∙◌, append-nil, append_assoc}
+use Rattle.std.proofs.lemmas.Bool.{cases_lt, le-leb, leb-true}
 use Rattle.std.proofs.lemmas.Grind.{flat_map-append}
 use Rattle.kv_types.specs.declared.refusal.Refusal.{Refusal}
 use Rattle.pipes.specs.declared.limits.TheConstants.{KEPT_GROUPS}
@@ -11,11 +11,31 @@ use Rattle.std.specs.Io.KnownBytes.{Appends}
 use Rattle.model.specs.declared.group.Group.{Group}
 use Rattle.stream_codec.specs.Message.{Sent, sent_text}
 use Rattle.frames.specs.declared.frame.Frame.{Frame}
-use Rattle.standby_stream.specs.Copying.{above, goes_aside}
-use Rattle.standby_stream.specs.Stream.{Stream, Adds, MayPin, TakesNext, pinned_at, acknowledged, placed, with_frame}
+use Rattle.standby_stream.specs.Copying.{above, ended_at, goes_aside}
+use Rattle.standby_stream.specs.Stream.{Stream, Adds, MayPin, TakesNext, pinned_at, acknowledged, with_frame}
+use Rattle.standby_stream.specs.declared.outgoing.Outgoing.{Outgoing}
 use Rattle.links.specs.declared.desk.CopyStep.{CopyStep}
 use Rattle.links.specs.Giving.{Gives, none_given, group_taken, step_taken, noted, HasGiven, TakesGroup, took, none, full, stays, TakesStep, untaken, nothing, pinned, told, pinned_by, sents_text, told_by}
 use Rattle.links.proofs.Serving.{Appends-join, Appends-none}
+
+sending-follows : (pin : ℕ) → Sending pin ≡ Follows → ⊥
+sending-follows pin is = cc
+
+ended-above : (position pin : ℕ) (b : Bool) → nat_le pin position ≡ b → (if b then Follows else Sending pin) ≡ Follows → pin ≤ position
+ended-above position pin true below same = leb-true pin position below
+ended-above position pin false below same = absurd (sending-follows pin same)
+
+ended-so : (position pin : ℕ) (b : Bool) → nat_le pin position ≡ b → pin ≤ position → (if b then Follows else Sending pin) ≡ Follows
+ended-so position pin true below le = refl
+ended-so position pin false below le = absurd (true≢false (sym (le-leb pin position le) ∙ below))
+
+-- an acknowledgement ends a copy just where it is at the position that is pinned or above
+pub ends-just : (position pin : ℕ) (copying now : Copying) → copying ≡ Sending pin → now ≡ ended_at position copying → (now ≡ Follows → pin ≤ position) × (pin ≤ position → now ≡ Follows)
+ends-just position pin copying now is at =
+    let by : now ≡ ended_at position (Sending pin) = at ∙ ap (ended_at position) is in (
+      (λ (follows : now ≡ Follows). ended-above position pin (nat_le pin position) refl (sym by ∙ follows)),
+      (λ (le : pin ≤ position). by ∙ ended-so position pin (nat_le pin position) refl le),
+    )
 
 -- one message is put
 pub one_told : (out after : List ℕ) (message : Sent) → after ≡ out ++ sent_text message → after ≡ out ++ sents_text (message ∷ [])
@@ -124,11 +144,11 @@ module _ {I C : Type 0} (takes : I → Option Group → I → Type 0) (tells : C
       (record { sent = so_far.sent; gives = noted so_far.sent middle left copies mark so_far.gives; appended = so_far.appended })
 
   -- where an acknowledgement came, note was taken of it
-  pub SoGiven-heeded : (before : Option (List ℕ)) (middle now : Stream) (left : I) (copies : C) (after : Option (List ℕ)) (mark : ℕ) → (now ≡ middle) ⊎ (now ≡ acknowledged mark middle)
-      → SoGiven before middle left copies after → SoGiven before now left copies after
-  SoGiven-heeded before middle now left copies after mark notes so_far =
-      ⊎_elim (λ (same : now ≡ middle). subst (λ (link : Stream). SoGiven before link left copies after) (sym same) so_far)
-      (λ (is : now ≡ acknowledged mark middle). SoGiven-noted before middle now left copies after mark is so_far) notes
+  pub SoGiven-heeded : (before : Option (List ℕ)) (middle now : Outgoing) (left : I) (copies : C) (after : Option (List ℕ)) (did : Bool) (acked : Option ℕ)
+      → (acked ≡ None → (did ≡ false) × (now ≡ middle)) → IfSome acked (λ position. now.link ≡ acknowledged position middle.link)
+      → SoGiven before middle.link left copies after → SoGiven before now.link left copies after
+  SoGiven-heeded before middle now left copies after did None same notes so_far = subst (λ (outgoing : Outgoing). SoGiven before outgoing.link left copies after) (sym (same refl).1) so_far
+  SoGiven-heeded before middle now left copies after did (Some position) same notes so_far = SoGiven-noted before middle.link now.link left copies after position notes so_far
 
   module _ (before between : Option (List ℕ)) (middle aside last : Stream) (at left : I) (copies rest : C) (sent : List Sent) (so_far : SoGiven before middle at copies between)
       (group : TakesGroup takes middle at aside left) (step : TakesStep tells attempt aside copies sent last rest) where

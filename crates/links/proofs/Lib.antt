@@ -7,8 +7,11 @@ mod NewcomerSteps
 mod GatheredParts
 mod Hearing
 mod ServedOn
+mod Apart
 mod FirstPieces
 mod SentRounds
 mod GivenCopies
+mod EndedCopies
+mod TakenAnew
 mod Carrying
 mod Greeted

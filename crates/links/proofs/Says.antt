@@ -13,12 +13,13 @@ use Rattle.standby.specs.declared.standby.Standby.{Standby}
 use Rattle.standby.specs.Taking.{TakesFrame}
 use Rattle.standby.proofs.RearrangedLemmas.{IsRearranged-refl}
 use Rattle.stream_codec.specs.declared.message.Message.{Message}
-use Rattle.stream_codec.specs.Message.{Sent, sent_of, sent_of_frame}
+use Rattle.frames.specs.declared.copy.CopyEnd.{CopyEnd}
+use Rattle.stream_codec.specs.Message.{Sent, sent_of, sent_of_end, sent_of_frame}
 use Rattle.stream_codec.specs.Scanning.{sent_of_all}
 use Rattle.stream_codec.specs.Stream.{took, fed}
 use Rattle.node_log.specs.declared.link_error.LinkError.{LinkError}
 use Rattle.node_log.specs.declared.link_error.LinkError.TheVariants.{Closed}
-use Rattle.links.specs.Serving.{Held, Acknowledges, Answers, IsLeft, IsTidied, none, Leaves, keeps, cuts, fails, left_as_one, Says, HasRun, HasSaid, LinkSays, cut_off, Served, ack_text, acks_text, held}
+use Rattle.links.specs.Serving.{Held, Acknowledges, Answers, AnswersEnd, IsLeft, IsTidied, none, Leaves, keeps, cuts, fails, left_as_one, Says, HasRun, HasSaid, LinkSays, cut_off, Served, ack_text, acks_text, held}
 use Rattle.links.proofs.Serving.{Appends-join, Appends-none, Consumes-join, Run-join, Served-ended, not_refused}
 
 pub IsLeft-refl : (node : Held) → IsLeft node node
@@ -126,26 +127,38 @@ pub says-err : {first last : Held} {messages : List Sent} {before after : Option
 says-err (Ok done) part says whole = tt
 says-err (Err end) part says whole = (part, says, whole)
 
--- the frame was taken, and of its acknowledgement the beginning was written
+-- the message was answered, and of its acknowledgement the beginning was written
+says-cut : (result : Result (Unit {0}) LinkError) (first last : Held) (message : Sent) (ack : Ack) (before after : Option (List ℕ)) → Answers first message ack last
+    → OnErr result ((part : List ℕ) × (rest : List ℕ) × (ack_text ack ≡ part ++ rest) × Appends before after part × (¬ IsErrOf result Closed → part ≡ []))
+    → OnErr result ((part : List ℕ) × Says first (message ∷ []) before last after part × (¬ IsErrOf result Closed → part ≡ []))
+says-cut (Ok done) first last message ack before after answers begun = tt
+says-cut (Err end) first last message ack before after answers begun = (
+  begun.0,
+  record {
+    done = [];
+    others = message ∷ [];
+    acks = [];
+    middle = first;
+    are = refl;
+    run = none first;
+    leaves = cuts first last message [] ack begun.0 begun.1 answers begun.2;
+    written = begun.3;
+  },
+  begun.4,
+)
+
+-- it is a frame, which was taken
 pub says-frame : (result : Result (Unit {0}) LinkError) (first last : Held) (frame : Frame) (ack : Ack) (before after : Option (List ℕ)) → Acknowledges first frame ack last
     → OnErr result ((part : List ℕ) × (rest : List ℕ) × (ack_text ack ≡ part ++ rest) × Appends before after part × (¬ IsErrOf result Closed → part ≡ []))
     → OnErr result ((part : List ℕ) × Says first (sent_of_frame frame ∷ []) before last after part × (¬ IsErrOf result Closed → part ≡ []))
-says-frame (Ok done) first last frame ack before after told begun = tt
-says-frame (Err end) first last frame ack before after told begun =
-    let answers : Answers first (sent_of_frame frame) ack last = record { frame = frame; is_frame = refl; acknowledges = told } in (
-      begun.0,
-      record {
-        done = [];
-        others = sent_of_frame frame ∷ [];
-        acks = [];
-        middle = first;
-        are = refl;
-        run = none first;
-        leaves = cuts first last (sent_of_frame frame) [] ack begun.0 begun.1 answers begun.2;
-        written = begun.3;
-      },
-      begun.4,
-    )
+says-frame result first last frame ack before after told begun =
+    says-cut result first last (sent_of_frame frame) ack before after (inl (record { frame = frame; is_frame = refl; acknowledges = told })) begun
+
+-- it is the end of a copy that tells nothing new
+pub says-end : (result : Result (Unit {0}) LinkError) (node : Held) (end : CopyEnd) (ack : Ack) (before after : Option (List ℕ)) → AnswersEnd node (sent_of_end end) ack node
+    → OnErr result ((part : List ℕ) × (rest : List ℕ) × (ack_text ack ≡ part ++ rest) × Appends before after part × (¬ IsErrOf result Closed → part ≡ []))
+    → OnErr result ((part : List ℕ) × Says node (sent_of_end end ∷ []) before node after part × (¬ IsErrOf result Closed → part ≡ []))
+says-end result node end ack before after answers begun = says-cut result node node (sent_of_end end) ack before after (inr answers) begun
 
 -- ---- a whole link
 

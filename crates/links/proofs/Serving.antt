@@ -20,7 +20,7 @@ use Rattle.stream_codec.specs.Scanning.{sent_of_all}
 use Rattle.std.specs.Io.KnownBytes.{Appends, Consumes}
 use Rattle.std.proofs.lemmas.Grind.{flat_map-append}
 use Rattle.stream_codec.specs.Stream.{begun as unfed, took, fed}
-use Rattle.links.specs.Serving.{Held, Acknowledges, Answers, IsFreed, IsTidied, Run, none, more, idle, as_one, HasRun, Served, ack_text, acks_text, ends_by, held}
+use Rattle.links.specs.Serving.{Held, Acknowledges, Answers, IsFreed, IsTidied, IsAnswered, Run, TellsNothing, none, more, passed, idle, as_one, HasRun, Served, ack_text, acks_text, ends_by, held}
 
 same_ack : {ack told : Ack} → ◌≡◌ {A = Result Ack Refusal} (Ok ack) (Ok told) → ack ≡ told
 same_ack is = cc
@@ -133,6 +133,9 @@ Run-join first middle last messages _ acks _ run (more _ between _ others told m
     subst (λ (sent : List Sent). Run first sent (acks ++ (told ++ ack ∷ [])) last) (append_assoc messages others (message ∷ []))
     (subst (λ (all : List Ack). Run first ((messages ++ others) ++ message ∷ []) all last) (append_assoc acks told (ack ∷ []))
     (more first between last (messages ++ others) (acks ++ told) message ack (Run-join first middle between messages others acks told run so_far) answers))
+Run-join first middle last messages _ acks told run (passed _ _ others _ message so_far nothing) =
+    subst (λ (sent : List Sent). Run first sent (acks ++ told) last) (append_assoc messages others (message ∷ []))
+    (passed first last (messages ++ others) (acks ++ told) message (Run-join first middle last messages others acks told run so_far) nothing)
 Run-join first middle last messages others acks told run (idle _ between _ _ _ so_far tidied) =
     idle first between last (messages ++ others) (acks ++ told) (Run-join first middle between messages others acks told run so_far) tidied
 Run-join first middle last messages _ acks told run (as_one _ _ earlier later _ one next whole on is so_far) =
@@ -187,6 +190,25 @@ pub one_more-message : (first middle last : Held) (messages : List Message) (mes
 one_more-message first middle last messages message ack before between after so_far answers written =
     subst (λ (sent : List Sent). HasRun first sent before last after) (sym (map-append sent_of messages (message ∷ [])))
     (one_more first middle last (sent_of_all messages) (sent_of message) ack before between after so_far answers written)
+
+passed_one : (first last : Held) (messages : List Sent) (message : Sent) (before after : Option (List ℕ)) → HasRun first messages before last after → TellsNothing last message
+    → HasRun first (messages ++ message ∷ []) before last after
+passed_one first last messages message before after so_far nothing = record {
+  acks = so_far.acks;
+  run = passed first last messages so_far.acks message so_far.run nothing;
+  written = so_far.written;
+}
+
+-- the messages so far and the next one, which was answered or tells nothing new
+pub answered-message : (first middle last : Held) (messages : List Message) (message : Message) (before between after : Option (List ℕ)) → HasRun first (sent_of_all messages) before middle between
+    → IsAnswered middle (sent_of message) between last after → HasRun first (sent_of_all (messages ++ message ∷ [])) before last after
+answered-message first middle last messages message before between after so_far (inl answered) =
+    one_more-message first middle last messages message answered.0 before between after so_far answered.1 answered.2
+answered-message first middle last messages message before between after so_far (inr nothing) =
+    subst (λ (sent : List Sent). HasRun first sent before last after) (sym (map-append sent_of messages (message ∷ [])))
+    (subst (λ (node : Held). HasRun first (sent_of_all messages ++ sent_of message ∷ []) before node after) (sym nothing.1)
+    (subst (λ (written : Option (List ℕ)). HasRun first (sent_of_all messages ++ sent_of message ∷ []) before middle written) (sym nothing.2)
+    (passed_one first middle (sent_of_all messages) (sent_of message) before between so_far nothing.0)))
 
 -- a link that has just begun
 pub Served-begun : (first : Held) (bytes before : Option (List ℕ)) → Served first bytes before first bytes before (Some [])

@@ -1,5 +1,5 @@
--- Which of the messages of a link are of a copy. A standby takes none, and no receiver of acknowledgements: each refuses it, and is as it was. What a newcomer
--- makes of them, specs/Copying.antt says.
+-- Which of the messages of a link are of a copy. A receiver of acknowledgements takes none: it refuses it, and is as it was. What a newcomer makes of them,
+-- specs/Copying.antt says, and what a standby, specs/Serving.antt.
 use Rattle.stream_codec.specs.Message.{Sent, WantsCopy, CopiesPart, EndsCopy}
 
 -- the message wants a copy, is a part of one, or ends one

@@ -1,11 +1,14 @@
 -- How a primary's link gives a newcomer its copy: what it takes of the node's thread and of the groups meanwhile, and what goes out.
-use Rattle.std.specs.Prelude.{◌≡◌, ℕ, Bool, ◌==◌, if◌then◌else◌, List, [], ◌∷◌, ◌++◌, Option, Some, None}
+use Rattle.std.specs.Prelude.{◌≡◌, ◌⊎◌, ℕ, ◌==◌, if◌then◌else◌, List, [], ◌∷◌, ◌++◌, Option, Some, None}
 use Rattle.std.specs.List.{flat_map}
 use Rattle.std.specs.Io.KnownBytes.{Appends}
 use Rattle.model.specs.declared.group.Group.{Group}
 use Rattle.frames.specs.declared.frame.Frame.{Frame}
 use Rattle.stream_codec.specs.Message.{Sent, sent_of_end, sent_of_part, sent_text}
 use Rattle.standby_stream.specs.Stream.{Stream, IsFrameOf, MayPin, TakesNext, acknowledged, pinned_at, placed}
+use Rattle.pipes.specs.Ring.{offered_at}
+use Rattle.pipes.specs.declared.ring_pipe.RingOutlet.{RingOutlet}
+use Rattle.links.specs.declared.desk.CopyAsk.{CopyAsk}
 use Rattle.links.specs.declared.desk.CopyStep.{CopyStep}
 use Rattle.links.specs.declared.desk.CopyStep.TheVariants.{Pinned, Part, End}
 
@@ -20,6 +23,10 @@ abbrev pub told_by : ℕ → CopyStep → List Sent
 told_by attempt (Pinned own position) = []
 told_by attempt (Part own part) = if own == attempt then sent_of_part part ∷ [] else []
 told_by attempt (End own end) = if own == attempt then sent_of_end end ∷ [] else []
+
+-- What the link asks of the node's thread was offered last, or for want of room nothing was.
+abbrev pub HasAsked : {P : Type 0} → RingOutlet CopyAsk P → CopyAsk → RingOutlet CopyAsk P → Type 0
+HasAsked old asked new = (offered_at new ≡ offered_at old ++ asked ∷ []) ⊎ (offered_at new ≡ offered_at old)
 
 -- the messages as bytes, one after another
 abbrev pub sents_text : List Sent → List ℕ

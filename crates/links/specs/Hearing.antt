@@ -1,5 +1,5 @@
 -- What a receiver of acknowledgements takes of the messages that come on a link.
-use Rattle.std.specs.Prelude.{◌≡◌, ◌⊎◌, ℕ, ◌<◌, ◌≤◌, max, min, true, false, List, [], ◌∷◌, ◌++◌, Option}
+use Rattle.std.specs.Prelude.{◌≡◌, ◌≢◌, ◌⊎◌, ℕ, ◌<◌, ◌≤◌, max, min, true, false, List, [], ◌∷◌, ◌++◌, Option}
 use Rattle.std.specs.Io.KnownBytes.{Consumes}
 use Rattle.frames.specs.declared.frame.Frame.{Frame}
 use Rattle.frames.specs.declared.ack.Ack.{Ack}
@@ -9,6 +9,7 @@ use Rattle.standby_stream.specs.Stream.{counts}
 use Rattle.wakes.specs.Waiting.{WakesDue}
 use Rattle.links.specs.Copies.{IsOfCopy}
 use Rattle.links.specs.Reading.{Reads}
+use Rattle.links.specs.Standing.{with_newcomer}
 use Rattle.links.specs.declared.receiver.AckReceiver.{AckReceiver}
 use Rattle.links.specs.declared.standing.Standing.TheVariants.{Ahead, Behind}
 
@@ -19,17 +20,17 @@ pub record Takes (old : AckReceiver) (ack : Ack) (new : AckReceiver) : Type 0 wh
   pub within : ack.position ≤ new.marks.local
   pub raised : new.marks.remote ≡ max old.marks.remote ack.position
   pub heard : new.marks.heard ≡ 1
-  pub was_behind : old.standing ≡ Behind
+  pub was_not_ahead : old.standing ≢ Ahead
   pub behind : new.standing ≡ Behind
   pub epoch : new.epoch ≡ old.epoch
   pub calls : WakesDue old.due (min new.marks.local new.marks.remote) new.due
 
--- The receiver took the word of a newcomer of its epoch that it wants a copy: it was heard, and nothing else is changed.
+-- The receiver took the word of a newcomer of its epoch that it wants a copy: it was heard, the remote mark stayed, and where the standby was ahead, the newcomer
+-- has come where it was.
 pub record HearsNewcomer (old : AckReceiver) (wanted : CopyWanted) (new : AckReceiver) : Type 0 where
   pub own : wanted.epoch ≡ old.epoch
   pub heard : new.marks ≡ record old.marks { heard = 1 }
-  pub was_behind : old.standing ≡ Behind
-  pub behind : new.standing ≡ Behind
+  pub standing : new.standing ≡ with_newcomer old.standing
   pub epoch : new.epoch ≡ old.epoch
   pub calls_none : new.due ≡ old.due
 

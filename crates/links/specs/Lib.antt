@@ -1,3 +1,4 @@
+pub mod Standing
 pub mod Marking
 pub mod Sending
 pub mod Reading

@@ -11,9 +11,11 @@ use Rattle.standby_stream.specs.Outgoing.{Notes}
 use Rattle.standby_stream.specs.Stream.{awaiting, opened as opened_link}
 use Rattle.standby_stream.specs.declared.outgoing.Outgoing.{Outgoing}
 use Rattle.links.specs.Hearing.{HasHeardBehind, HearsNewcomer, RefusesAck, Takes}
+use Rattle.links.specs.Standing.{found_anew}
 use Rattle.links.specs.declared.opened.Peer.{Peer}
 use Rattle.links.specs.declared.opened.Peer.TheVariants.{Standby, Newcomer}
 use Rattle.links.specs.declared.receiver.AckReceiver.{AckReceiver}
+use Rattle.links.specs.declared.standing.Standing.TheVariants.{Behind}
 
 -- What was read is one message and what came behind it in the same piece, which the decoder holds: nothing of it is lost.
 pub record Says (bytes left : Option (List ℕ)) (message : Sent) (held : Option (List ℕ)) : Type 0 where
@@ -33,9 +35,10 @@ pub record Reopens (position : ℕ) (old new : Outgoing) : Type 0 where
   pub behind : position < old.opening.position → (frame : Frame) × LeadsFromBehind old.link.epoch old.opening old.link.aside position frame × (new.link ≡ opened_link (Some frame) old.link)
   pub kept : new.opening ≡ old.opening
 
--- The acknowledgement was taken as any other, and the link is open from where it says that the standby is: what it acknowledges is noted.
+-- The acknowledgement was taken as any other, where no standby was ahead that nobody replaced, and the link is open from where it says that the standby is: what it
+-- acknowledges is noted.
 pub record Opens (ack : Ack) (receiver hearing : AckReceiver) (old new : Outgoing) : Type 0 where
-  pub takes : Takes receiver ack hearing
+  pub takes : Takes (found_anew receiver) ack hearing
   pub middle : Outgoing
   pub reopens : Reopens ack.position old middle
   pub notes : Notes ack.position middle new
@@ -52,6 +55,11 @@ OpensTo bytes left (Standby position) held receiver hearing old new =
     (ack : Ack) × SaysFirst bytes left ack held × (position ≡ ack.position) × Opens ack receiver hearing old new
 OpensTo bytes left Newcomer held receiver hearing old new = (wanted : CopyWanted) × Says bytes left (sent_of_wanted wanted) held × Awaits wanted receiver hearing old new
 
+-- a link opens to a standby only where none was ahead that nobody has replaced
+abbrev pub MayOpen : Peer → AckReceiver → Type 0
+MayOpen (Standby position) receiver = receiver.standing ≡ Behind
+MayOpen Newcomer receiver = Unit {0}
+
 -- the same of a connection of which no more is known
 abbrev pub OpensOrAwaits : AckReceiver → AckReceiver → Outgoing → Outgoing → Type 0
 OpensOrAwaits receiver hearing old new = ((ack : Ack) × Opens ack receiver hearing old new) ⊎ ((wanted : CopyWanted) × Awaits wanted receiver hearing old new)
@@ -59,10 +67,10 @@ OpensOrAwaits receiver hearing old new = ((ack : Ack) × Opens ack receiver hear
 -- What a receiver made of one connection: nothing, or of the first message that came there, by which it opens, and then of all that came behind it.
 pub data HearsLink : AckReceiver → AckReceiver → Type 0 where
   silent : (receiver : AckReceiver) → HearsLink receiver receiver
-  refused : (old new : AckReceiver) (ack : Ack) → RefusesAck old ack new → HearsLink old new
-  unopened : (old new : AckReceiver) (ack : Ack) → Takes old ack new → HearsLink old new
+  refused : (old new : AckReceiver) (ack : Ack) → RefusesAck (found_anew old) ack new → HearsLink old new
+  unopened : (old new : AckReceiver) (ack : Ack) → Takes (found_anew old) ack new → HearsLink old new
   unawaited : (old new : AckReceiver) (wanted : CopyWanted) → HearsNewcomer old wanted new → HearsLink old new
-  opened : (old hearing new : AckReceiver) (ack : Ack) (bytes left held : Option (List ℕ)) → SaysFirst bytes left ack held → Takes old ack hearing → HasHeardBehind hearing held new
+  opened : (old hearing new : AckReceiver) (ack : Ack) (bytes left held : Option (List ℕ)) → SaysFirst bytes left ack held → Takes (found_anew old) ack hearing → HasHeardBehind hearing held new
       → HearsLink old new
   awaited : (old hearing new : AckReceiver) (wanted : CopyWanted) (bytes left held : Option (List ℕ)) → Says bytes left (sent_of_wanted wanted) held → HearsNewcomer old wanted hearing
       → HasHeardBehind hearing held new → HearsLink old new

@@ -1,5 +1,5 @@
 -- How a standby serves a link: which frames it answered, and what it holds then.
-use Rattle.std.specs.Prelude.{◌≡◌, ◌⊎◌, ℕ, nat_eq, nat_le, if◌then◌else◌, List, [], ◌∷◌, ◌++◌, Option, None, Some}
+use Rattle.std.specs.Prelude.{◌≡◌, ◌⊎◌, ℕ, nat_eq, nat_le, if◌then◌else◌, List, [], ◌∷◌, ◌++◌, Option, None, Some, Result, Ok, Err}
 use Rattle.std.specs.List.{flat_map}
 use Rattle.std.specs.Io.KnownBytes.{Appends, Consumes}
 use Rattle.stream_codec.specs.Stream.{Reaches}
@@ -13,7 +13,10 @@ use Rattle.frames.specs.Joining.{IsJoined, JoinsOn}
 use Rattle.stream_codec.specs.declared.message.GroupHead.{GroupHead}
 use Rattle.frames.specs.declared.ack.Ack.{Ack}
 use Rattle.standby.specs.Following.{TakesEpoch, IsHeld, IsNext, IsRearranged, IsTakenNext, HasTaken, EndsAs}
-use Rattle.stream_codec.specs.Message.{Sent, sent_of_frame, sent_of_ack, sent_text}
+use Rattle.frames.specs.declared.copy.CopyEnd.{CopyEnd}
+use Rattle.frames.specs.declared.copy.CopyPart.{CopyPart}
+use Rattle.standby.specs.Copied.{judged}
+use Rattle.stream_codec.specs.Message.{Sent, sent_of_frame, sent_of_ack, sent_of_end, sent_of_part, sent_text}
 use Rattle.node_log.specs.declared.link_error.LinkError.{LinkError}
 use Rattle.node_log.specs.declared.link_error.LinkError.TheVariants.{Refused, Stops}
 
@@ -44,20 +47,26 @@ pub record IsTidied (before after : Held) : Type 0 where
   pub table_is : after.table ≡ before.table
 
 -- the same of what came on the link, which is a frame
-pub record Answers (before : Held) (message : Sent) (ack : Ack) (after : Held) : Type 0 where
+pub record AnswersFrame (before : Held) (message : Sent) (ack : Ack) (after : Held) : Type 0 where
   pub frame : Frame
   pub is_frame : message ≡ sent_of_frame frame
   pub acknowledges : Acknowledges before frame ack after
 
--- The node answered these messages, in order, with these acknowledgements, and nothing else moved it. Between them it may have tidied its image. Two frames of
--- which one follows the other it may have answered as one, by the acknowledgement of the whole; and so any number that follow one another.
-pub data Run : Held → List Sent → List Ack → Held → Type 0 where
-  none : (node : Held) → Run node [] [] node
-  more : (first middle last : Held) (messages : List Sent) (acks : List Ack) (message : Sent) (ack : Ack)
-      → Run first messages acks middle → Answers middle message ack last → Run first (messages ++ message ∷ []) (acks ++ ack ∷ []) last
-  idle : (first middle last : Held) (messages : List Sent) (acks : List Ack) → Run first messages acks middle → IsTidied middle last → Run first messages acks last
-  as_one : (first last : Held) (earlier later : List Sent) (acks : List Ack) (one next whole : Frame) → JoinsOn one next → IsJoined one next whole
-      → Run first (earlier ++ sent_of_frame whole ∷ later) acks last → Run first (earlier ++ sent_of_frame one ∷ sent_of_frame next ∷ later) acks last
+-- It is the end of a copy, which tells the node nothing new: the node acknowledges by it where it is, and is as it was.
+pub record AnswersEnd (before : Held) (message : Sent) (ack : Ack) (after : Held) : Type 0 where
+  pub end : CopyEnd
+  pub is_end : message ≡ sent_of_end end
+  pub known : judged before.contents.current end.epoch end.position ≡ Ok tt
+  pub ack_is : ack ≡ record { epoch = before.contents.current.epoch; position = before.contents.current.position }
+  pub same : after ≡ before
+
+-- the node acknowledged what came on the link
+abbrev pub Answers : Held → Sent → Ack → Held → Type 0
+Answers before message ack after = AnswersFrame before message ack after ⊎ AnswersEnd before message ack after
+
+-- the message is a part of a copy that tells the node nothing new
+abbrev pub TellsNothing : Held → Sent → Type 0
+TellsNothing node message = (part : CopyPart) × (message ≡ sent_of_part part) × (judged node.contents.current part.epoch part.position ≡ Ok tt)
 
 -- acknowledgements as bytes
 unfoldable pub ack_text : Ack → List ℕ
@@ -65,6 +74,28 @@ ack_text ack = sent_text (sent_of_ack ack)
 
 abbrev pub acks_text : List Ack → List ℕ
 acks_text = flat_map ack_text
+
+-- What came was answered, and the acknowledgement written; or it tells the node nothing new, which is as it was, and nothing was written.
+abbrev pub IsAnswered : Held → Sent → Option (List ℕ) → Held → Option (List ℕ) → Type 0
+IsAnswered first message before last after =
+    ((ack : Ack) × Answers first message ack last × Appends before after (ack_text ack)) ⊎ (TellsNothing first message × (last ≡ first) × (after ≡ before))
+
+-- how a link goes on by what a node says to a part or an end of a copy
+abbrev pub refused_by : Result (Unit {0}) Refusal → Result (Unit {0}) LinkError
+refused_by (Ok done) = Ok done
+refused_by (Err refusal) = Err (Refused refusal)
+
+-- The node answered these messages, in order, with these acknowledgements, and nothing else moved it. Parts of a copy that told it nothing new it passed over. Between
+-- them it may have tidied its image. Two frames of which one follows the other it may have answered as one, by the acknowledgement of the whole; and so any number that follow one another.
+pub data Run : Held → List Sent → List Ack → Held → Type 0 where
+  none : (node : Held) → Run node [] [] node
+  more : (first middle last : Held) (messages : List Sent) (acks : List Ack) (message : Sent) (ack : Ack)
+      → Run first messages acks middle → Answers middle message ack last → Run first (messages ++ message ∷ []) (acks ++ ack ∷ []) last
+  passed : (first last : Held) (messages : List Sent) (acks : List Ack) (message : Sent) → Run first messages acks last → TellsNothing last message
+      → Run first (messages ++ message ∷ []) acks last
+  idle : (first middle last : Held) (messages : List Sent) (acks : List Ack) → Run first messages acks middle → IsTidied middle last → Run first messages acks last
+  as_one : (first last : Held) (earlier later : List Sent) (acks : List Ack) (one next whole : Frame) → JoinsOn one next → IsJoined one next whole
+      → Run first (earlier ++ sent_of_frame whole ∷ later) acks last → Run first (earlier ++ sent_of_frame one ∷ sent_of_frame next ∷ later) acks last
 
 -- The same keyspace stands at the same position, perhaps rearranged.
 pub record IsLeft (before after : Held) : Type 0 where

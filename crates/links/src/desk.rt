@@ -1,6 +1,7 @@
 //! What a primary's link and the node's thread tell each other of a copy for a newcomer.
-ghost use Rattle.std.specs.Prelude.{◌≡◌, ◌+◌, ◌≤◌, IfSome, Some, None};
-ghost use Rattle.links.specs.Giving.{pinned_by};
+ghost use Rattle.std.specs.Prelude.{◌≡◌, true, false};
+ghost use Rattle.links.specs.Giving.{HasAsked, pinned_by};
+ghost use Rattle.links.specs.declared.desk.CopyAsk.TheVariants.{Over, Wanted};
 
 use frames::{CopyEnd, CopyPart};
 use pipes::{Outlet, RingInlet, RingOutlet};
@@ -57,7 +58,7 @@ impl CopyDesk {
     /// The desk at these ends, at which nothing was asked.
     pub fn new(asks: RingOutlet<CopyAsk>, copies: RingInlet<CopyStep>) -> CopyDesk
         ensures copies { result.copies ≡ copies }
-        ensures unasked { result.attempt ≡ 0 }
+        ensures unasked { (result.attempt ≡ 0) × (result.is_asked ≡ false) }
     {
         CopyDesk {
             asks,
@@ -71,6 +72,8 @@ impl CopyDesk {
     pub(crate) fn ask(&mut self) -> u64
         ensures attempt { result ≡ self.new.attempt }
         ensures copies { self.new.copies ≡ self.old.copies }
+        ensures asked { self.new.is_asked ≡ true }
+        ensures asks { HasAsked self.old.asks (Wanted self.new.attempt) self.new.asks }
     {
         self.attempt = self.attempt.saturating_add(1);
         self.is_asked = true;
@@ -81,6 +84,11 @@ impl CopyDesk {
     /// Says that no copy is wanted any more, where one was. Answers whether one was.
     pub(crate) fn release(&mut self) -> bool
         ensures copies { self.new.copies ≡ self.old.copies }
+        ensures attempt { self.new.attempt ≡ self.old.attempt }
+        ensures was { result ≡ self.old.is_asked }
+        ensures unasked { self.new.is_asked ≡ false }
+        ensures over { self.old.is_asked ≡ true → HasAsked self.old.asks Over self.new.asks }
+        ensures none { self.old.is_asked ≡ false → self.new.asks ≡ self.old.asks }
     {
         if !self.is_asked {
             return false;

@@ -2,17 +2,21 @@
 ghost use Rattle.std.specs.Prelude.{◌≡◌, ◌↔◌, ℕ, List, [], ◌∷◌, OnOk, OnErr, Err, Ok, Option, None, Some, MatchOption, IfOk, IfErr, IfSome, IsErrOf};
 ghost use Rattle.std.specs.Io.KnownBytes.{Appends, Consumes};
 ghost use Rattle.kv_types.specs.declared.refusal.Refusal.TheVariants.{Fault, FrameFault, Memory};
-ghost use Rattle.stream_codec.specs.Message.{sent_of, sent_of_frame};
+ghost use Rattle.stream_codec.specs.Message.{sent_of, sent_of_end, sent_of_frame};
 ghost use Rattle.stream_codec.specs.Reading.{group_begun};
 ghost use Rattle.stream_codec.specs.Scanning.{sent_of_all};
 ghost use Rattle.stream_codec.specs.Stream.{fed};
 ghost use Rattle.frames.specs.declared.ack.Ack.{Ack as Told};
-ghost use Rattle.stream_codec.specs.declared.message.Message.TheVariants.{Ack as AckMessage};
-ghost use Rattle.links.specs.Copies.{IsOfCopy};
+ghost use Rattle.frames.specs.declared.copy.CopyEnd.{CopyEnd as End};
+ghost use Rattle.frames.specs.declared.copy.CopyPart.{CopyPart as Part};
+ghost use Rattle.frames.specs.declared.copy.CopyWanted.{CopyWanted as Wanted};
+ghost use Rattle.stream_codec.specs.declared.message.Message.TheVariants.{Ack as AckMessage, CopyEnd as EndMessage, CopyPart as PartMessage, CopyWanted as WantedMessage};
 ghost use Rattle.links.specs.Reading.{piece_of};
 ghost use Rattle.placing.specs.Fill.{fill_of};
 ghost use Rattle.standby.specs.Taking.{Stands};
-ghost use Rattle.links.specs.Serving.{held, Acknowledges, Answers, HasRun, HasSaid, IsTidied, Leaves, LinkSays, Says, Served, ack_text, refusal_of_ack, refusal_of_head};
+ghost use Rattle.links.specs.Serving.{held, Acknowledges, AnswersEnd, HasRun, IsAnswered, HasSaid, IsTidied, Leaves, LinkSays, Says, Served, ack_text, refusal_of_ack, refusal_of_head, refused_by};
+ghost use Rattle.standby.specs.Copied.{judged};
+ghost use Rattle.wbl_engine.specs.Contents.{IsDurable};
 ghost use Rattle.links.specs.Greeting.{TakesOver};
 ghost use Rattle.links.specs.declared.left.Left.TheVariants.{Adopts, Stopped};
 ghost use Rattle.node_log.specs.declared.link_error.LinkError.TheVariants.{Closed, Refused, Stops};
@@ -29,7 +33,7 @@ use crate::meeting::{left_by, serve_greeted};
 use crate::reading::new_block;
 use crate::serving_on::answer_from;
 use crate::stage::Stage;
-use frames::{Ack, Frame};
+use frames::{Ack, CopyEnd, CopyPart, Frame};
 use greeting::Greeting;
 use kv_types::Refusal;
 use mv_keyspace::Keyspace;
@@ -302,7 +306,8 @@ fn answer_all<E: Durable, K: Keyspace, O: Write>(
 }
 
 /// Answers what came: a frame by its acknowledgement. An acknowledgement from the primary is
-/// refused, with nothing changed: `PositionGap` where it is of the node's epoch, else `WrongEpoch`. So is what is of a copy, by `FrameFault`: this node takes none.
+/// refused, with nothing changed: `PositionGap` where it is of the node's epoch, else `WrongEpoch`. So is that the other side wants a copy, by `FrameFault`. A part or
+/// the end of a copy is judged as `Standby::on_part` and `on_end` say.
 fn answer<E: Durable, K: Keyspace, O: Write>(
     alloc: Global,
     node: &mut Standby<E, K>,
@@ -313,21 +318,60 @@ fn answer<E: Durable, K: Keyspace, O: Write>(
     requires stands { Stands E.device E.contents E.is_faulted K.table node.old }
     requires empty { out.old.items ≡ [] }
     ensures stands { ¬ IsErrOf result (Stops Fault) → Stands E.device E.contents E.is_faulted K.table node.new }
-    ensures answered { OnOk result ((ack : Told) × Answers (held (E.contents node.old.engine) (K.table node.old.keyspace)) (sent_of message) ack (held (E.contents node.new.engine) (K.table node.new.keyspace))
-        × Appends (O.contents to.old) (O.contents to.new) (ack_text ack)) }
+    ensures answered { OnOk result (IsAnswered (held (E.contents node.old.engine) (K.table node.old.keyspace)) (sent_of message) (O.contents to.old)
+        (held (E.contents node.new.engine) (K.table node.new.keyspace)) (O.contents to.new)) }
     ensures emptied { OnOk result (out.new.items ≡ []) }
     ensures says { OnErr result ((part : List ℕ) × Says (held (E.contents node.old.engine) (K.table node.old.keyspace)) (sent_of message ∷ []) (O.contents to.old)
         (held (E.contents node.new.engine) (K.table node.new.keyspace)) (O.contents to.new) part × (¬ IsErrOf result Closed → part ≡ [])) }
     ensures misplaced { (ack : Told) → message ≡ AckMessage ack
         → (result ≡ Err (Refused (refusal_of_ack (E.contents node.old.engine).current.epoch ack))) × (node.new ≡ node.old) × (to.new ≡ to.old) }
-    ensures of_copy { IsOfCopy (sent_of message) → (result ≡ Err (Refused FrameFault)) × (node.new ≡ node.old) × (to.new ≡ to.old) }
+    ensures wanted { (wanted : Wanted) → message ≡ WantedMessage wanted → (result ≡ Err (Refused FrameFault)) × (node.new ≡ node.old) × (to.new ≡ to.old) }
+    ensures part { (part : Part) → message ≡ PartMessage part
+        → (result ≡ refused_by (judged (E.contents node.old.engine).current part.epoch part.position)) × (node.new ≡ node.old) × (to.new ≡ to.old) }
+    ensures end { (end : End) → message ≡ EndMessage end → IfErr (judged (E.contents node.old.engine).current end.epoch end.position) (λ refusal. result ≡ Err (Refused refusal))
+        × (node.new ≡ node.old) }
 {
     match message {
         Message::Group(frame) => answer_frame(alloc, node, frame, out, to),
         Message::Ack(ack) => Err(LinkError::Refused(refusal_of_ack(node.epoch(), &ack))),
-        Message::CopyWanted(_) | Message::CopyPart(_) | Message::CopyEnd(_) => {
-            Err(LinkError::Refused(Refusal::FrameFault))
-        }
+        Message::CopyWanted(_) => Err(LinkError::Refused(Refusal::FrameFault)),
+        Message::CopyPart(part) => pass_part(node, &part),
+        Message::CopyEnd(end) => answer_end(node, end, out, to),
+    }
+}
+
+/// Judges a part of a copy, as `Standby::on_part` does: one that tells nothing new is passed over.
+fn pass_part<E: Durable, K: Keyspace>(
+    node: &Standby<E, K>,
+    part: &CopyPart,
+) -> Result<(), LinkError>
+    ensures { result ≡ refused_by (judged (E.contents node.now.engine).current part.now.epoch part.now.position) }
+{
+    match node.on_part(part) {
+        Ok(()) => Ok(()),
+        Err(refusal) => Err(LinkError::Refused(refusal)),
+    }
+}
+
+/// Judges the end of a copy, as `Standby::on_end` does, and sends the acknowledgement of one that tells nothing new.
+fn answer_end<E: Durable, K: Keyspace, O: Write>(
+    node: &Standby<E, K>,
+    end: CopyEnd,
+    out: &mut Vec<u8>,
+    to: &mut O,
+) -> Result<(), LinkError>
+    requires durable { IsDurable (E.device node.now.engine) (E.contents node.now.engine) }
+    requires empty { out.old.items ≡ [] }
+    ensures answered { OnOk result ((ack : Told) × AnswersEnd (held (E.contents node.now.engine) (K.table node.now.keyspace)) (sent_of_end end) ack (held (E.contents node.now.engine) (K.table node.now.keyspace))
+        × Appends (O.contents to.old) (O.contents to.new) (ack_text ack)) }
+    ensures emptied { OnOk result (out.new.items ≡ []) }
+    ensures says { OnErr result ((part : List ℕ) × Says (held (E.contents node.now.engine) (K.table node.now.keyspace)) (sent_of_end end ∷ []) (O.contents to.old)
+        (held (E.contents node.now.engine) (K.table node.now.keyspace)) (O.contents to.new) part × (¬ IsErrOf result Closed → part ≡ [])) }
+    ensures refused { IfErr (judged (E.contents node.now.engine).current end.epoch end.position) (λ refusal. result ≡ Err (Refused refusal)) }
+{
+    match node.on_end(end) {
+        Ok(ack) => say(ack, to, out),
+        Err(refusal) => Err(LinkError::Refused(refusal)),
     }
 }
 

@@ -1,17 +1,15 @@
 //! A copy that is given to a newcomer on its link: parts of it as they come, and meanwhile groups are taken, so that nobody waits for room.
-ghost use Rattle.std.specs.Prelude.{◌≡◌, ◌⊎◌, ℕ, List, [], ◌++◌, OnOk, true};
+ghost use Rattle.std.specs.Prelude.{◌≡◌, ◌↔◌, ◌≤◌, ℕ, List, [], ◌++◌, None, OnOk, IfSome, IsTrue, true, false};
 ghost use Rattle.stream_codec.specs.Message.{Sent};
 ghost use Rattle.standby_stream.specs.Stream.{Stream, acknowledged};
-ghost use Rattle.standby_stream.specs.declared.copying.Copying.TheVariants.{Follows};
+ghost use Rattle.standby_stream.specs.declared.copying.Copying.TheVariants.{Awaited, Follows, Sending};
 ghost use Rattle.links.specs.Giving.{HasGiven, TakesGroup, TakesStep, sents_text, told_by};
 
 use crate::desk::CopyStep;
-use crate::link_flags::LinkFlags;
 use crate::sender_telling::Telling;
 use crate::sending::{Surroundings, rest_after, wake_for};
 use crate::writing::write_put;
 use kv_types::Refusal;
-use marks::ThreadMarks;
 use model::Group;
 use node_log::Lost;
 use pipes::Inlet;
@@ -39,7 +37,6 @@ pub(crate) fn give_copy<
     rt: &R,
     alloc: Global,
     outgoing: &mut Outgoing,
-    marks: &mut ThreadMarks,
     groups: &mut I,
     copies: &mut C,
     attempt: u64,
@@ -57,11 +54,13 @@ pub(crate) fn give_copy<
     let mut parts = 0u64;
     let mut bytes = 0u64;
     for _ in rt.forever() {
-        if around.flags.is_broken.is_set() {
-            return (parts > 0, Err(Lost::Ended));
-        }
-        if has_copy(outgoing, alloc, marks, around.flags) {
+        // what was acknowledged before the connection ended is found
+        let is_broken = around.flags.is_broken();
+        if has_copy(outgoing, alloc, around.flags.last_acked()) {
             return (parts > 0, Ok(()));
+        }
+        if is_broken {
+            return (parts > 0, Err(Lost::Ended));
         }
         let is_due = match give_next(outgoing, alloc, groups, copies, attempt, &mut out) {
             Ok(is_due) => is_due,
@@ -81,20 +80,18 @@ pub(crate) fn give_copy<
     (parts > 0, Err(Lost::Ended))
 }
 
-/// Takes note of the remote mark, once an acknowledgement came on this link. Answers whether the copy is over by that.
-fn has_copy(
-    outgoing: &mut Outgoing,
-    alloc: Global,
-    marks: &mut ThreadMarks,
-    flags: &LinkFlags,
-) -> bool
-    ensures notes { (outgoing.new.link ≡ outgoing.old.link) ⊎ (outgoing.new.link ≡ acknowledged marks.new.remote outgoing.old.link) }
+/// Takes note of the last acknowledgement on this link, if one came. Answers whether the copy is over by that: by one below the position that is pinned it is not.
+fn has_copy(outgoing: &mut Outgoing, alloc: Global, acked: Option<u64>) -> bool
+    ensures none { acked ≡ None → (result ≡ false) × (outgoing.new ≡ outgoing.old) }
+    ensures notes { IfSome acked (λ position. outgoing.new.link ≡ acknowledged position outgoing.old.link) }
     ensures over { result ≡ true → (outgoing.new.link).copying ≡ Follows }
+    ensures whole { (pinned : ℕ) → (outgoing.old.link).copying ≡ Sending pinned → IfSome acked (λ position. IsTrue result ↔ (pinned ≤ position)) }
+    ensures unpinned { (outgoing.old.link).copying ≡ Awaited → result ≡ false }
 {
-    if !flags.has_acked.is_set() {
+    let Some(position) = acked else {
         return false;
-    }
-    outgoing.note(alloc, marks.read_remote());
+    };
+    outgoing.note(alloc, position);
     outgoing.copying().follows()
 }
 

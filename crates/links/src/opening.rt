@@ -3,7 +3,7 @@ ghost use Rattle.std.specs.Prelude.{◌≡◌, ℕ, List, [], ◌∷◌, Option,
 ghost use Rattle.stream_codec.specs.Message.{sent_of};
 ghost use Rattle.greeting.specs.declared.greeting.Greeting.{Greeting as Said};
 ghost use Rattle.links.specs.Greeting.{Greets};
-ghost use Rattle.links.specs.Marking.{StaysFinal};
+ghost use Rattle.links.specs.Marking.{KeepsApart};
 ghost use Rattle.links.specs.First.{message_of};
 ghost use Rattle.links.specs.Opening.{Awaits, HearsLink, Opens, OpensTo, Says};
 
@@ -43,7 +43,7 @@ pub(crate) fn greet_and_open<I: Read, O: Write>(
     ensures kept { OnErr result (outgoing.new.opening ≡ outgoing.old.opening) }
     ensures epoch { receiver.new.epoch ≡ receiver.old.epoch }
     ensures sends { (outgoing.new.link).epoch ≡ (outgoing.old.link).epoch }
-    ensures stays { StaysFinal receiver.old receiver.new }
+    ensures apart { KeepsApart receiver.old receiver.new }
 {
     match greet(own, from, to) {
         Ok(_) => open_link(alloc, outgoing, receiver, from),
@@ -69,7 +69,7 @@ fn open_link<I: Read>(
     ensures kept { OnErr result (outgoing.new.opening ≡ outgoing.old.opening) }
     ensures epoch { receiver.new.epoch ≡ receiver.old.epoch }
     ensures sends { (outgoing.new.link).epoch ≡ (outgoing.old.link).epoch }
-    ensures stays { StaysFinal receiver.old receiver.new }
+    ensures apart { KeepsApart receiver.old receiver.new }
 {
     let Some((first, decoder)) = read_opening(alloc, from) else {
         return Err(Lost::Silent);
@@ -103,9 +103,9 @@ fn open_to_standby(
     ensures kept { OnErr result (outgoing.new.opening ≡ outgoing.old.opening) }
     ensures epoch { receiver.new.epoch ≡ receiver.old.epoch }
     ensures sends { (outgoing.new.link).epoch ≡ (outgoing.old.link).epoch }
-    ensures stays { StaysFinal receiver.old receiver.new }
+    ensures apart { KeepsApart receiver.old receiver.new }
 {
-    if let Err(refusal) = receiver.hear(ack) {
+    if let Err(refusal) = receiver.hear_first(ack) {
         return Err(Lost::Refused(refusal));
     }
     if let Err(refusal) = outgoing.open_at(alloc, ack.position()) {
@@ -131,7 +131,7 @@ fn open_to_newcomer(
     ensures kept { OnErr result (outgoing.new.opening ≡ outgoing.old.opening) }
     ensures epoch { receiver.new.epoch ≡ receiver.old.epoch }
     ensures sends { (outgoing.new.link).epoch ≡ (outgoing.old.link).epoch }
-    ensures stays { StaysFinal receiver.old receiver.new }
+    ensures apart { KeepsApart receiver.old receiver.new }
 {
     if let Err(refusal) = receiver.hear_newcomer(wanted) {
         return Err(Lost::Refused(refusal));

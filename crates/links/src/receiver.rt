@@ -23,7 +23,7 @@ const BLOCK_BYTES: usize = 4_096;
 pub struct AckReceiver {
     /// The marks, of which it raises the remote one, as nobody else does.
     marks: ThreadMarks,
-    /// How the standby stands to this node. Nobody else sets it, since what was once ahead is so for good.
+    /// How the standby stands to this node. Nobody else sets it, since what was once ahead is so until a newcomer has taken its place.
     standing: Standing,
     /// The writers that wait for both marks.
     pub due: DueOut,
@@ -47,7 +47,8 @@ impl AckReceiver {
     ghost use Rattle.standby_stream.specs.Stream.{counts};
     ghost use Rattle.links.specs.Copies.{IsOfCopy};
     ghost use Rattle.links.specs.Hearing.{HasHeard, HasHeardBehind, Hears, HearsNewcomer, Refuses, RefusesAck, StopsAt, Takes};
-    ghost use Rattle.links.specs.Marking.{StaysFinal};
+    ghost use Rattle.links.specs.Marking.{KeepsApart, StaysAhead};
+    ghost use Rattle.links.specs.Standing.{found_anew};
     ghost use Rattle.wakes.specs.Waiting.{WakesDue};
     ghost use Rattle.links.specs.declared.standing.Standing.TheVariants.{Ahead, Behind};
 
@@ -78,31 +79,21 @@ impl AckReceiver {
 
     /// Takes acknowledgements until the connection ends or one of them is refused. The decoder has been fed what was read before.
     pub fn run(self, alloc: Global, stream: Arc<TcpStream>, decoder: Decoder) -> AckReceiver
-        ensures stays { StaysFinal self result }
+        ensures stays { StaysAhead self result }
         ensures epoch { result.epoch ≡ self.epoch }
         ensures heard { HasHeardBehind self decoder result }
     {
         let mut own = self;
         own.hear_link(alloc, &mut &*stream, decoder);
-        own.flags.is_broken.set();
+        own.flags.tell_broken();
         own.link.wake();
         own
-    }
-
-    /// Whether the standby was once above this node, so that nothing that it acknowledges counts any more.
-    pub fn is_final(&self) -> bool
-        ensures { IsTrue result ↔ (self.now.standing ≡ Ahead) }
-    {
-        match self.standing {
-            Standing::Behind => false,
-            Standing::Ahead => true,
-        }
     }
 
     /// Takes the acknowledgements that come, in order, until this reader ends or one of them is refused.
     fn hear_link<I: Read>(&mut self, alloc: Global, from: &mut I, decoder: Decoder)
         ensures epoch { self.new.epoch ≡ self.old.epoch }
-        ensures stays { StaysFinal self.old self.new }
+        ensures stays { StaysAhead self.old self.new }
         ensures heard { HasHeard self.old decoder (I.remaining from.old) self.new (I.remaining from.new) }
     {
         let Ok(mut block) = new_block(alloc, BLOCK_BYTES) else {
@@ -130,7 +121,7 @@ impl AckReceiver {
     /// Those of `hear_message`.
     fn hear_all(&mut self, messages: Vec<Message>) -> Result<(), Refusal>
         ensures epoch { self.new.epoch ≡ self.old.epoch }
-        ensures stays { StaysFinal self.old self.new }
+        ensures stays { StaysAhead self.old self.new }
         ensures all { OnOk result (Hears self.old (sent_of_all messages.items) self.new) }
         ensures refused { OnErr result (StopsAt self.old (sent_of_all messages.items) self.new) }
     {
@@ -147,7 +138,7 @@ impl AckReceiver {
     /// Those of `hear`, and `FrameFault` for a group, which only a primary sends, and for what is of a copy, which this node gives to nobody.
     fn hear_message(&mut self, message: &Message) -> Result<(), Refusal>
         ensures epoch { self.new.epoch ≡ self.old.epoch }
-        ensures stays { StaysFinal self.old self.new }
+        ensures stays { StaysAhead self.old self.new }
         ensures taken { OnOk result ((ack : Told) × (sent_of message.now ≡ sent_of_ack ack) × Takes self.old ack self.new) }
         ensures refused { OnErr result (Refuses self.old (sent_of message.now) self.new) }
         ensures of_copy { IsOfCopy (sent_of message.now) → (result ≡ Err FrameFault) × (self.new ≡ self.old) }
@@ -168,35 +159,52 @@ impl AckReceiver {
     /// Those of `hear`.
     fn hear_acked(&mut self, ack: Ack) -> Result<(), Refusal>
         ensures epoch { self.new.epoch ≡ self.old.epoch }
-        ensures stays { StaysFinal self.old self.new }
+        ensures stays { StaysAhead self.old self.new }
         ensures taken { OnOk result (Takes self.old ack self.new) }
         ensures refused { OnErr result (RefusesAck self.old ack self.new) }
     {
         self.hear(ack)?;
-        self.flags.has_acked.set();
+        self.flags.tell_acked(ack.position());
         self.link.wake();
         Ok(())
     }
 
-    /// Takes the word of a newcomer that it wants a copy: no standby is left that could be ahead of this node. The node's thread is woken. The remote mark stays.
+    /// Takes the word of a newcomer that it wants a copy, as a link's first message. Where a standby was ahead, the newcomer replaces it once it acknowledges its copy
+    /// on this link. The node's thread is woken. The remote mark stays.
     ///
     /// # Errors
     ///
-    /// `WrongEpoch` for one of another epoch, and `StandbyAhead` where the standby was once ahead. Nothing changed then.
+    /// `WrongEpoch` for one of another epoch. Nothing changed then.
     pub(crate) fn hear_newcomer(&mut self, wanted: &CopyWanted) -> Result<(), Refusal>
+        ensures apart { KeepsApart self.old self.new }
         ensures heard { OnOk result (HearsNewcomer self.old wanted.now self.new) }
         ensures refused { OnErr result (self.new ≡ self.old) }
-        ensures wrong { wanted.now.epoch ≢ self.old.epoch → result ≡ Err WrongEpoch }
+        ensures wrong { wanted.now.epoch ≢ self.old.epoch ↔ (result ≡ Err WrongEpoch) }
+        ensures cause { IfErr result (λ refusal. refusal ≡ WrongEpoch) }
     {
         if wanted.epoch != self.epoch {
             return Err(Refusal::WrongEpoch);
         }
-        if self.is_final() {
-            return Err(Refusal::StandbyAhead);
-        }
+        self.standing = self.standing.with_newcomer();
         self.marks.hear_newcomer(wanted);
         self.node.wake();
         Ok(())
+    }
+
+    /// Takes a standby's acknowledgement as a link's first message: as any other, but that a newcomer of an earlier link has replaced nobody.
+    ///
+    /// # Errors
+    ///
+    /// Those of `hear`.
+    pub(crate) fn hear_first(&mut self, ack: Ack) -> Result<(), Refusal>
+        ensures epoch { self.new.epoch ≡ self.old.epoch }
+        ensures apart { KeepsApart self.old self.new }
+        ensures taken { OnOk result (Takes (found_anew self.old) ack self.new) }
+        ensures refused { OnErr result (RefusesAck (found_anew self.old) ack self.new) }
+        ensures ahead { counts self.old.epoch ack ≡ true → self.old.standing ≢ Behind → result ≡ Err StandbyAhead }
+    {
+        self.standing = self.standing.anew();
+        self.hear(ack)
     }
 
     /// Takes an acknowledgement: raises the remote mark to it, and wakes the writers that are due, the link's sender and the node's thread. The local mark is
@@ -205,14 +213,14 @@ impl AckReceiver {
     /// # Errors
     ///
     /// `WrongEpoch` for one of another epoch; `StandbyAhead` just for one that counts and is above the
-    /// local mark, and from then on for each later one that would count. The remote mark stays.
+    /// local mark, and from then on for each later one that would count, until a newcomer wants a copy. The remote mark stays.
     pub fn hear(&mut self, ack: Ack) -> Result<(), Refusal>
         ensures epoch { self.new.epoch ≡ self.old.epoch }
-        ensures stays { StaysFinal self.old self.new }
+        ensures stays { StaysAhead self.old self.new }
         ensures taken { OnOk result (Takes self.old ack self.new) }
         ensures refused { OnErr result (RefusesAck self.old ack self.new) }
         ensures local { self.old.marks.local ≤ self.new.marks.local }
-        ensures within { counts self.old.epoch ack ≡ true → self.old.standing ≡ Behind → ack.position ≤ self.new.marks.local → result ≡ Ok tt }
+        ensures within { counts self.old.epoch ack ≡ true → self.old.standing ≢ Ahead → ack.position ≤ self.new.marks.local → result ≡ Ok tt }
         ensures above { counts self.old.epoch ack ≡ true → self.new.marks.local < ack.position → result ≡ Err StandbyAhead }
         ensures once_ahead { counts self.old.epoch ack ≡ true → self.old.standing ≡ Ahead → result ≡ Err StandbyAhead }
         ensures ahead { IsErrOf result StandbyAhead → self.new.standing ≡ Ahead }
@@ -223,6 +231,7 @@ impl AckReceiver {
         match self.judge(ack, seen.local) {
             Ok(()) => {
                 self.marks.raise_remote(ack);
+                self.standing = Standing::Behind;
                 self.wake(seen.local.min(seen.remote.max(ack.position())));
                 Ok(())
             }
@@ -237,8 +246,8 @@ impl AckReceiver {
     /// Whether it takes an acknowledgement, where the local mark is `own`: as `standby_stream::judge` says, and none that counts of a standby that was
     /// ahead.
     fn judge(&self, ack: Ack, own: u64) -> Result<(), Refusal>
-        ensures taken { OnOk result ((self.now.standing ≡ Behind) × (counts self.now.epoch ack ≡ true) × (ack.position ≤ own)) }
-        ensures within { counts self.now.epoch ack ≡ true → self.now.standing ≡ Behind → ack.position ≤ own → result ≡ Ok tt }
+        ensures taken { OnOk result ((self.now.standing ≢ Ahead) × (counts self.now.epoch ack ≡ true) × (ack.position ≤ own)) }
+        ensures within { counts self.now.epoch ack ≡ true → self.now.standing ≢ Ahead → ack.position ≤ own → result ≡ Ok tt }
         ensures above { counts self.now.epoch ack ≡ true → own < ack.position → result ≡ Err StandbyAhead }
         ensures once_ahead { counts self.now.epoch ack ≡ true → self.now.standing ≡ Ahead → result ≡ Err StandbyAhead }
         ensures why { OnErr result ((counts self.now.epoch ack ≡ false) ⊎ ((self.now.standing ≡ Ahead) ⊎ (own < ack.position))) }
@@ -246,7 +255,7 @@ impl AckReceiver {
         ensures causes { IfErr result (λ refusal. (refusal ≡ WrongEpoch) ⊎ (refusal ≡ StandbyAhead)) }
     {
         match judge(self.epoch, ack, own) {
-            Ok(()) if self.is_final() => Err(Refusal::StandbyAhead),
+            Ok(()) if self.standing.is_ahead() => Err(Refusal::StandbyAhead),
             judged => judged,
         }
     }

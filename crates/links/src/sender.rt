@@ -1,14 +1,13 @@
 //! The thread that opens the link to the standby and sends on it.
-ghost use Rattle.std.specs.Prelude.{◌≡◌, ◌⊎◌, ◌↔◌, ◌<◌, ℕ, List, Option, OnErr, OnOk, IfOk, IsTrue};
+ghost use Rattle.std.specs.Prelude.{◌≡◌, ◌⊎◌, ◌↔◌, ◌<◌, ℕ, List, Option, OnErr, OnOk, IfOk, IsTrue, false};
 ghost use Rattle.links.specs.Carrying.{GivesAndSends, GivesCopy, GoesTo, KeepsAll, SendsOnLink, SendsTo, ServesLink, ServesLinks, TouchesNeither};
 ghost use Rattle.links.specs.Ends.{AreOfOneEpoch};
 ghost use Rattle.greeting.specs.declared.greeting.Greeting.{Greeting as Said};
 ghost use Rattle.links.specs.Greeting.{Greets, greeting_of};
 ghost use Rattle.links.specs.Hearing.{HasHeardBehind};
-ghost use Rattle.links.specs.Marking.{StaysFinal};
-ghost use Rattle.links.specs.Opening.{HearsLink, OpensOrAwaits, OpensTo};
-ghost use Rattle.standby_stream.specs.declared.copying.Copying.TheVariants.{Follows};
-ghost use Rattle.links.specs.declared.standing.Standing.TheVariants.{Behind};
+ghost use Rattle.links.specs.Marking.{KeepsApart, KeepsApartOnLink, StaysAhead};
+ghost use Rattle.links.specs.Opening.{HearsLink, MayOpen, OpensOrAwaits, OpensTo};
+ghost use Rattle.standby_stream.specs.declared.copying.Copying.TheVariants.{Awaited, Follows};
 
 use crate::desk::CopyDesk;
 use crate::dialing::{dial, why_not};
@@ -16,7 +15,7 @@ use crate::gap::tell_gap;
 use crate::giving::give_copy;
 use crate::opened::{Opened, Peer, share};
 use crate::opening::greet_and_open;
-use crate::pausing::{pause, stay_apart};
+use crate::pausing::pause;
 use crate::receiver::AckReceiver;
 use crate::same_end::SameEnd;
 use crate::sender_telling::Telling;
@@ -99,7 +98,7 @@ impl LinkSender {
     /// Keeps the link open for good: opens it, sends on it while it lasts, and opens it again after a pause. It tells when a link is
     /// open and when it is lost, of several in a row that do not come up each new reason, and of several in a row on which the standby took nothing that they
     /// did.
-    /// Once the standby was ahead of this node no link is opened any more: it tells that, again and again. On each of these links the acknowledgements that
+    /// Once the standby was ahead of this node no link opens any more but a newcomer's. On each of these links the acknowledgements that
     /// count are of the epoch of the frames that are sent.
     pub fn run<
         R: Threads + Wait + Clock + Net<Stream = TcpStream> + Copy + Send + 'static,
@@ -110,10 +109,9 @@ impl LinkSender {
         let mut own = self;
         let mut telling = Telling::new(log);
         own.serve_links(&rt, alloc, receiver, &mut telling);
-        stay_apart(&rt, &mut telling.log);
     }
 
-    /// Serves one link after another, each after a pause, until the standby was ahead of this node. All that it keeps is what the links left.
+    /// Serves one link after another, each after a pause. All that it keeps is what the links left.
     fn serve_links<R: Threads + Wait + Clock + Net<Stream = TcpStream>, W: Write>(
         &mut self,
         rt: &R,
@@ -129,9 +127,6 @@ impl LinkSender {
         for _ in rt.forever() {
             let (next, got_on) = self.serve_link(rt, alloc, receiver, telling);
             receiver = next;
-            if receiver.is_final() {
-                return receiver;
-            }
             if got_on {
                 pauses = FIRST_PAUSES;
             }
@@ -151,7 +146,7 @@ impl LinkSender {
     ) -> (AckReceiver, bool)
         requires { AreOfOneEpoch self.old receiver }
         ensures epoch { AreOfOneEpoch self.new result.0 }
-        ensures stays { StaysFinal receiver result.0 }
+        ensures apart { KeepsApartOnLink receiver result.0 }
         ensures heard { HearsLink receiver result.0 }
         ensures serves { ServesLink self.old receiver self.new result.0 }
     {
@@ -180,7 +175,7 @@ impl LinkSender {
     ) -> (AckReceiver, bool)
         requires { AreOfOneEpoch self.old receiver }
         ensures epoch { AreOfOneEpoch self.new result.0 }
-        ensures stays { StaysFinal receiver result.0 }
+        ensures stays { StaysAhead receiver result.0 }
         ensures heard { HasHeardBehind receiver opened.decoder result.0 }
         ensures sends { GoesTo opened.peer self.old self.new }
         ensures got_on { IsTrue result.1 ↔ ((self.old.outgoing.link).known < (self.new.outgoing.link).known) }
@@ -205,11 +200,9 @@ impl LinkSender {
                 let address = self.address.as_str();
                 let reached = self.outgoing.known();
                 let got_on = reached > known;
-                let is_refused = peer.follows() && has_sent && !got_on && why.is_by_peer();
-                telling.log.say(News::LinkLost { address, why });
-                telling
-                    .refused
-                    .note(rt, &mut telling.log, address, reached, is_refused);
+                let is_refused = has_sent && !got_on && why.is_by_peer();
+                let copying = self.outgoing.copying();
+                telling.tell_lost(rt, address, peer, copying, reached, why, is_refused);
                 (child.join(rt), got_on)
             }
             Err(error) => {
@@ -261,11 +254,6 @@ impl LinkSender {
         let (has_sent, given) = self.give(rt, alloc, stream, telling);
         if let Err(why) = given {
             self.release_unpinned();
-            let is_refused = has_sent && why.is_by_peer();
-            let address = self.address.as_str();
-            telling
-                .copy
-                .note_end(rt, &mut telling.log, address, is_refused);
             return (has_sent, why);
         }
         let address = self.address.as_str();
@@ -279,7 +267,9 @@ impl LinkSender {
     /// Says that no copy is wanted any more, where none could be pinned on the link that has ended: so the next link gets a new one, and not one behind which
     /// more groups have come than are kept.
     fn release_unpinned(&mut self)
-        ensures { KeepsAll self.old self.new }
+        ensures keeps { KeepsAll self.old self.new }
+        ensures released { (self.old.outgoing.link).copying ≡ Awaited → self.new.desk.is_asked ≡ false }
+        ensures pinned { ¬ ((self.old.outgoing.link).copying ≡ Awaited) → self.new.desk ≡ self.old.desk }
     {
         if self.outgoing.copying().is_awaited() && self.desk.release() {
             self.thread.node.wake();
@@ -309,7 +299,6 @@ impl LinkSender {
             rt,
             alloc,
             &mut self.outgoing,
-            &mut self.marks,
             &mut self.groups,
             &mut self.desk.copies,
             attempt,
@@ -351,8 +340,8 @@ impl LinkSender {
         receiver: &mut AckReceiver,
     ) -> Result<Opened, Lost>
         ensures epoch { AreOfOneEpoch self.old receiver.old → AreOfOneEpoch self.new receiver.new }
-        ensures stays { StaysFinal receiver.old receiver.new }
-        ensures behind { OnOk result (receiver.old.standing ≡ Behind) }
+        ensures apart { KeepsApart receiver.old receiver.new }
+        ensures behind { IfOk result (λ opened. MayOpen opened.peer receiver.old) }
         ensures opened { IfOk result (λ opened. (bytes : Option (List ℕ)) × (left : Option (List ℕ))
             × OpensTo bytes left opened.peer opened.decoder receiver.old receiver.new self.old.outgoing self.new.outgoing) }
         ensures greeted { OnOk result ((theirs : Said) × (bytes : Option (List ℕ)) × (left : Option (List ℕ)) × (before : Option (List ℕ)) × (after : Option (List ℕ))

@@ -51,6 +51,28 @@ impl<W: Write> Telling<W> {
         }
     }
 
+    /// The link to this peer at this address was lost, with the standby at this position; `copying` says whether one follows by then. `is_refused` says that
+    /// something was sent on it, that nothing of it was acknowledged, and that it was the peer that ended it: then it is told of several in a row.
+    pub(crate) fn tell_lost<C: Clock>(
+        &mut self,
+        clock: &C,
+        address: &str,
+        peer: Peer,
+        copying: Copying,
+        position: u64,
+        why: Lost,
+        is_refused: bool,
+    ) {
+        self.log.say(News::LinkLost { address, why });
+        let follows = peer.follows() && is_refused;
+        self.refused
+            .note(clock, &mut self.log, address, position, follows);
+        if !copying.follows() {
+            self.copy
+                .note_end(clock, &mut self.log, address, is_refused);
+        }
+    }
+
     /// So many parts of so many bytes were sent on this link, of the copy that is pinned, if one is.
     pub(crate) fn tell_copy<C: Clock>(
         &mut self,
@@ -72,12 +94,15 @@ impl<W: Write> Telling<W> {
         self.log.say(News::LinkOpen { address, position });
     }
 
-    /// No link comes up: that is told where the reason is another one than before. What is to be done where the standby lacks what this node cannot send, or
-    /// where the two may not link, is told at once, and then ever more seldom. `epoch` is that of this node.
+    /// No link comes up: that is told where the reason is another one than before, and so is what is to be done where the standby is ahead. What is to be done where
+    /// it lacks what this node cannot send, or where the two may not link, is told at once, and then ever more seldom. `epoch` is that of this node.
     pub(crate) fn tell_none<C: Clock>(&mut self, clock: &C, address: &str, epoch: u64, why: Lost) {
         if self.told != Some(why) {
             self.told = Some(why);
             self.log.say(News::NoLink { address, why });
+            if why == Lost::Refused(Refusal::StandbyAhead) {
+                self.log.say(News::StandbyAhead);
+            }
         }
         if why == Lost::Refused(Refusal::PositionGap) && self.behind.is_due(clock) {
             self.log.say(News::StandbyBehind { address });

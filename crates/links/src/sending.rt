@@ -162,7 +162,7 @@ pub(crate) fn send_all<R: Wait + Clock, I: Inlet<Item = Group>, O: Write>(
         return (has_sent, why);
     }
     for _ in rt.forever() {
-        if around.flags.is_broken.is_set() {
+        if around.flags.is_broken() {
             return (has_sent, Lost::Ended);
         }
         if let Err(refusal) = put_due(outgoing, alloc, marks, groups, &mut out) {

@@ -3,7 +3,7 @@ use Rattle.std.proofs.lemmas.Result.{err_from_is_err_and}
 use Rattle.std.specs.Vec.Iter.{into_iter_items}
 use Rattle.stream_codec.specs.declared.message.Message.{Message}
 use Rattle.links.proofs.Says.{says-err, says-stopped}
-use Rattle.links.proofs.Serving.{begun-none, one_more-message, not_stopped, same_end}
+use Rattle.links.proofs.Serving.{answered-message, begun-none, not_stopped, same_end}
 use Rattle.links.proofs.following.answer_all.Goals as goal
 
 pub loop-message-init : goal.loop-message-init
@@ -11,11 +11,10 @@ loop-message-init g c = record { stands = c.requires.stands; emptied = c.require
 
 pub loop-message-preserved : goal.loop-message-preserved
 loop-message-preserved g c =
-    let answered = c.in_ok-answer.ensures.answered in
     record {
       stands = c.in_ok-answer.ensures.stands (not_stopped _);
       emptied = c.in_ok-answer.ensures.emptied;
-      so_far = one_more-message _ _ _ c.loop-message.yielded c.in-Some.message answered.0 _ _ _ c.loop-message.invariant.so_far answered.1 answered.2;
+      so_far = answered-message _ _ _ c.loop-message.yielded c.in-Some.message _ _ _ c.loop-message.invariant.so_far c.in_ok-answer.ensures.answered;
       left = c.loop-message.invariant.left ∙ ap (λ (rest : List Message). c.loop-message.yielded ++ rest) c.in-Some.ensures.steps.0
           ∙ sym (append_assoc c.loop-message.yielded (c.in-Some.message ∷ []) (into_iter_items c.next.new.self));
     }

@@ -11,5 +11,5 @@ returns-in-Err-open_at-clause-refused c = unopened _ _ c.args.ack c.in_default.e
 pub returns-clause-opened : goal.returns-clause-opened
 returns-clause-opened c =
     let at = c.in_default-open_at.ensures in
-    Opens-by c.args.ack _ _ c.args.receiver.now c.hear.new.self c.args.outgoing.now c.open_at.new.self c.note.new.self c.position.ensures c.position-2.ensures c.in_default.ensures.taken
+    Opens-by c.args.ack _ _ c.args.receiver.now c.hear_first.new.self c.args.outgoing.now c.open_at.new.self c.note.new.self c.position.ensures c.position-2.ensures c.in_default.ensures.taken
     (Reopens-by c.in_default-open_at.field-0 _ _ _ at.behind_aside at.forgotten at.level at.level_aside at.opening) c.note.ensures.notes

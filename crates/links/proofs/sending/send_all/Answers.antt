@@ -27,8 +27,8 @@ loop-init g c =
     let put = put_alone _ _ _ c.new-out.ensures.items c.in_default.ensures.put in
     record { so_far = SoSent-delta g.I.Inlet.take_gives _ _ _ _ _ _ _ c.put_delta.ensures.link put c.in_default-write_put.ensures.written; emptied = c.write_put.ensures.emptied }
 
-pub returns-then-is_set : goal.returns-then-is_set
-returns-then-is_set g c = record { sent = ([], HasSent-all g.I.Inlet.take_gives _ _ _ _ _ _ _ _ _ c.loop.invariant.so_far, λ is. refl) }
+pub returns-then-is_broken : goal.returns-then-is_broken
+returns-then-is_broken g c = record { sent = ([], HasSent-all g.I.Inlet.take_gives _ _ _ _ _ _ _ _ _ c.loop.invariant.so_far, λ is. refl) }
 
 pub returns-in-Err-put_due : goal.returns-in-Err-put_due
 returns-in-Err-put_due g c =

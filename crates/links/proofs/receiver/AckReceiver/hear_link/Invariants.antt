@@ -1,5 +1,5 @@
 use Rattle.std.proofs.Common.{◌≡◌}
-use Rattle.links.specs.Marking.{StaysFinal}
+use Rattle.links.specs.Marking.{StaysAhead}
 use Rattle.links.proofs.Hearing.{SoFar}
 use Rattle.links.proofs.receiver.AckReceiver.hear_link.Given as goal
 
@@ -7,6 +7,6 @@ use Rattle.links.proofs.receiver.AckReceiver.hear_link.Given as goal
 abbrev pub invariant-loop : goal.invariant-loop
 invariant-loop g l = record {
   epoch : l.self.epoch ≡ l.initial.self.epoch;
-  stays : StaysFinal l.initial.self l.self;
+  stays : StaysAhead l.initial.self l.self;
   so_far : SoFar l.initial.self l.initial.decoder (g.I.Read.remaining l.initial.from) l.self (g.I.Read.remaining l.from) l.decoder;
 }

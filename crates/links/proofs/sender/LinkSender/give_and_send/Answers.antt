@@ -4,7 +4,7 @@ use Rattle.standby_stream.specs.declared.copying.Copying.TheVariants.{Follows}
 use Rattle.links.proofs.sender.LinkSender.give_and_send.Goals as goal
 
 pub returns-in-Err-clause-sends : goal.returns-in-Err-clause-sends
-returns-in-Err-clause-sends g c = (c.give-has_sent.new.self, c.give-has_sent.ensures.gives, inl c.release_unpinned.ensures)
+returns-in-Err-clause-sends g c = (c.give-has_sent.new.self, c.give-has_sent.ensures.gives, inl c.release_unpinned.ensures.keeps)
 
 pub returns-clause-sends : goal.returns-clause-sends
 returns-clause-sends g c =

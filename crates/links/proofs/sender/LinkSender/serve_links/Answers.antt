@@ -4,9 +4,6 @@ use Rattle.links.proofs.sender.LinkSender.serve_links.Goals as goal
 pub loop-init : goal.loop-init
 loop-init g c = record { epoch = c.requires; links = begun _ _ }
 
-pub returns-then-is_final : goal.returns-then-is_final
-returns-then-is_final g c = another _ _ _ _ _ _ c.loop.invariant.links c.serve_link-next.ensures.serves
-
 pub loop-preserved : goal.loop-preserved
 loop-preserved g c = record { epoch = c.serve_link-next.ensures.epoch; links = another _ _ _ _ _ _ c.loop.invariant.links c.serve_link-next.ensures.serves }
 
