@@ -16,7 +16,6 @@ pub use Rattle.primary.specs.Leading.{AreOfEpoch, Leads, entries_told, extents_t
 
 -- ---- the engine
 
-
 -- the image opens at this position of the list, as that of this standby, or of the primary of the next epoch
 abbrev pub OpensAsEither : Holder → List Call → ℕ → Image → Type 0
 OpensAsEither holder calls position image = OpensAt holder calls position image ⊎ OpensAt (promoted_holder holder) calls position image
