@@ -1,21 +1,10 @@
 -- What goes through a round of writing.
-use Rattle.std.proofs.Common.{ℕ, List, [], ◌++◌, take, drop, Option, sym, ap, ◌∙◌, append_assoc, append-nil, take-append-drop}
+use Rattle.std.proofs.Common.{ℕ, List, [], ◌++◌, take, drop, Option, sym, ap, ◌∙◌, append_assoc, take-append-drop}
 use Rattle.kv_types.specs.declared.reply.Held.{Held as Answer}
 use Rattle.kv_types.specs.declared.seen.Seen.{Seen}
 use Rattle.reply_gate.specs.Gate.{Held}
 use Rattle.clients.specs.Texts.{texts_of, unsent, Carries}
-use Rattle.clients.specs.Rounds.{waiting_with, covered_with, Releases, SendsOn}
-
-pub sends_on-carries : (t0 t1 : List Answer) (c0 c1 : Option (List ℕ)) (g0 g1 : Held) → SendsOn t0 t1 c0 c1 g0 g1 → Carries t0 t1 c0 c1 (unsent g0) (unsent g1)
-sends_on-carries t0 t1 c0 c1 g0 g1 on =
-    record {
-      more = [];
-      written = on.sends.first;
-      takes = on.takes ∙ sym (append-nil t0);
-      writes = on.sends.writes;
-      texts = append-nil (unsent g0) ∙ ap (λ xs. xs ++ g0.waiting) on.sends.whole ∙ append_assoc on.sends.first g1.pending g0.waiting
-          ∙ ap (λ xs. on.sends.first ++ (g1.pending ++ xs)) (sym on.waiting);
-    }
+use Rattle.clients.specs.Rounds.{waiting_with, covered_with, Releases}
 
 pub releases-carries : (seen : Seen) (t0 t1 : List Answer) (c0 c1 : Option (List ℕ)) (g0 g1 : Held) → Releases seen t0 t1 c0 c1 g0 g1 → Carries t0 t1 c0 c1 (unsent g0) (unsent g1)
 releases-carries seen t0 t1 c0 c1 g0 g1 releases =

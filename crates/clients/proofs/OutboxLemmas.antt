@@ -2,7 +2,6 @@
 use Rattle.std.proofs.Common.{◌≡◌, ℕ, zero, suc, ◌≤◌, nat_le, ◌&&◌, Bool, true, false, cond, List, [], ◌∷◌, ◌++◌, length, drop, OnOk, OnErr, Result, Ok, Err, refl, sym, ap, subst, ◌∙◌, arith, length-append, length-drop}
 use Rattle.std.specs.Prelude.{All}
 use Rattle.std.proofs.lemmas.Bool.{le-leb, leb-true, and_from, and_parts}
-use Rattle.std.proofs.lemmas.List.{nil_from_length}
 use Rattle.kv_types.specs.declared.seen.Seen.{Seen}
 use Rattle.kv_types.specs.Seen.{covers}
 use Rattle.reply_gate.specs.declared.held_text.HeldText.{HeldText}
@@ -79,10 +78,6 @@ released-within last seen old new within waits replies =
       bounded = all-of last new.replies (subst (AreAtMost last) (sym replies) (rest-at_most last seen old.replies (each last old.replies within.bounded)));
       counted = ap length waits ∙ omega (arith, length-drop (covered_bytes seen old.replies) old.waiting, within.counted, held_bytes-split seen old.replies) ∙ ap held_bytes (sym replies);
     }
-
--- nothing waits where no reply is held
-pub nothing-waits : (last : ℕ) (gate : Held) (replies : List HeldText) → IsWithin last gate → gate.replies ≡ replies → replies ≡ [] → gate.waiting ≡ []
-nothing-waits last gate replies within same none = nil_from_length gate.waiting (within.counted ∙ ap held_bytes (same ∙ none))
 
 pub first-of-three : (x y z : Bool) → ((x && y) && z) ≡ true → x ≡ true
 first-of-three x y z e = and-first x y (and-first (x && y) z e)

@@ -1,10 +1,8 @@
 -- Lists of places, one place after another.
-use Rattle.std.proofs.Common.{◌≡◌, ◌≢◌, ℕ, zero, suc, ◌+◌, ◌<◌, ◌≤◌, ◌++◌, inl, inr, Bool, All, List, [], ◌∷◌, length, Option, Some, None, slice_index_or, slice_set, nat_lt, true, false, refl, sym, ap, subst, ◌∙◌, arith}
-use Rattle.std.proofs.lemmas.List.{get_or_past, get_or-set_same, get_or-set_other}
-use Rattle.std.proofs.Common.{below_more}
-use Rattle.std.proofs.lemmas.Bool.{ltb-true, ltb-false}
+use Rattle.std.proofs.Common.{◌≡◌, ℕ, zero, suc, ◌<◌, ◌≤◌, ◌++◌, inl, inr, All, List, [], ◌∷◌, length, Option, Some, None, slice_index_or, slice_set, refl, sym, ap, subst, ◌∙◌, arith}
+use Rattle.std.proofs.lemmas.List.{get_or-set_same, get_or-set_other}
 use Rattle.std.proofs.lemmas.Bool.Decides.{eqb_tells}
-use Rattle.std.proofs.lemmas.List.{append-nil, append_assoc}
+use Rattle.std.proofs.lemmas.List.{append_assoc}
 use Rattle.std.proofs.lemmas.List.Elements.{All-append}
 use Rattle.mio.specs.declared.event.event.Event.{Event}
 use Rattle.mio.specs.Event.{event_token}
@@ -21,31 +19,6 @@ Place = Option DrivenConnection
 pub record Along (R : Place → Place → Type 0) (index : ℕ) (before now : List Place) : Type 0 where
   pub done : (k : ℕ) → k < index → R (connection_at before k) (connection_at now k)
   pub left : (k : ℕ) → index ≤ k → connection_at now k ≡ connection_at before k
-
-pub along-start : (R : Place → Place → Type 0) (places : List Place) → Along R 0 places places
-along-start R places = record { done = λ k lt. absurd (omega (arith, lt)); left = λ k le. refl }
-
-pub along-next : (R : Place → Place → Type 0) (index : ℕ) (before now : List Place) (new : Place) → index < length now → Along R index before now
-    → R (connection_at now index) new → Along R (index + 1) before (slice_set now index new)
-along-next R index before now new lt along here = record {
-  done = below_more _ _
-      (λ k below. let ne : k ≢ index = omega arith in
-      subst (λ (after : Place). R (connection_at before k) after) (sym (get_or-set_other now index k new None ne)) (along.done k below))
-      (subst (λ (after : Place). R (connection_at before index) after) (sym (get_or-set_same now index new None lt))
-      (subst (λ (was : Place). R was new) (along.left index (omega arith)) here));
-  left = λ k above. let ne : k ≢ index = omega (arith, above) in get_or-set_other now index k new None ne ∙ along.left k (omega (arith, above));
-}
-
-pub along-all : (R : Place → Place → Type 0) (index : ℕ) (before now : List Place) → length now ≤ index → R None None → Along R index before now
-    → (k : ℕ) → R (connection_at before k) (connection_at now k)
-along-all R index before now past none along k = by-order (nat_lt k index) refl
-  where
-    by-order : (below : Bool) → nat_lt k index ≡ below → R (connection_at before k) (connection_at now k)
-    by-order true is = along.done k (ltb-true k index is)
-    by-order false is =
-        let le : index ≤ k = ltb-false k index is in
-        let nobody : connection_at now k ≡ None = get_or_past now k None (omega (arith, le, past)) in
-        subst (λ (was : Place). R was (connection_at now k)) (along.left k le) (subst (λ (is : Place). R is is) (sym nobody) none)
 
 pub noted-stays : (before after : Place) → IsNoted before → NotesPlace before after → IsNoted after
 noted-stays None after noted notes = notes
@@ -78,20 +51,8 @@ pub notes-same : (place : Place) → NotesPlace place place
 notes-same None = cc
 notes-same (Some place) = stays_at-same place
 
-pub notes-none : (places : List Place) → Notes places places
-notes-none places = λ k. notes-same (connection_at places k)
-
 pub notes-all : (first second third : List Place) → Notes first second → Notes second third → Notes first third
 notes-all first second third notes then = λ k. notes-join (connection_at first k) (connection_at second k) (connection_at third k) (notes k) (then k)
-
-pub notes-equal : (places places' : List Place) → ((k : ℕ) → connection_at places' k ≡ connection_at places k) → Notes places places'
-notes-equal places places' same = λ k. subst (λ (after : Place). NotesPlace (connection_at places k) after) (sym (same k)) (notes-same (connection_at places k))
-
-pub add-none : (places : List Place) (k : ℕ) → connection_at (places ++ None ∷ []) k ≡ connection_at places k
-add-none [] zero = refl
-add-none [] (suc k) = refl
-add-none (place ∷ places) zero = refl
-add-none (place ∷ places) (suc k) = add-none places k
 
 -- a place is changed, and the others are as they were
 pub notes-set : (before now : List Place) (index : ℕ) (new : Place) → ((k : ℕ) → connection_at now k ≡ connection_at before k) → index < length now
@@ -130,9 +91,6 @@ pub record Heeds (start places : List Place) (all rest : List Event) : Type 0 wh
   pub are : all ≡ first ++ rest
   pub ready : All (λ event. IsHeardIn event start places) first
 
-pub heeds-start : (start places : List Place) (all : List Event) → Heeds start places all all
-heeds-start start places all = record { first = []; are = refl; ready = λ k d lt. absurd (omega (arith, lt)) }
-
 pub heeds-next : (start places places' : List Place) (all rest rest' : List Event) (event : Event) → rest ≡ event ∷ rest' → Heeds start places all rest
     → Notes start places → Notes places places' → IsHeardIn event places places' → Heeds start places' all rest'
 heeds-next start places places' all rest rest' event is heeds before notes here = record {
@@ -146,8 +104,3 @@ heeds-next start places places' all rest rest' event is heeds before notes here 
     only : (event : Event) → IsHeardIn event start places' → All (λ event. IsHeardIn event start places') (event ∷ [])
     only event here zero d lt = here
     only event here (suc k) d lt = absurd (omega (arith, lt))
-
-pub heeds-all : (start places : List Place) (all rest : List Event) → length rest ≡ 0 → Heeds start places all rest → All (λ event. IsHeardIn event start places) all
-heeds-all start places all [] none heeds = subst (λ (events : List Event). All (λ event. IsHeardIn event start places) events)
-    (sym (heeds.are ∙ append-nil heeds.first)) heeds.ready
-heeds-all start places all (event ∷ rest) none heeds = cc

@@ -1,13 +1,9 @@
 -- How writes of what was released follow one another.
 use Rattle.std.proofs.Common.{◌≡◌, ◌≤◌, ℕ, List, [], ◌++◌, length, take, drop, Option, sym, ap, ◌∙◌, append_assoc, take-append-drop}
 use Rattle.std.proofs.lemmas.List.{take-append-le}
-use Rattle.std.proofs.KnownBytes.{Appends-nil, Appends-kept, Appends-trans}
-use Rattle.std.specs.Io.KnownBytes.{Appends, Keeps}
+use Rattle.std.proofs.KnownBytes.{Appends-trans}
+use Rattle.std.specs.Io.KnownBytes.{Appends}
 use Rattle.clients.specs.Texts.{Sends}
-
--- nothing was written
-pub sends-nothing : (c0 c1 : Option (List ℕ)) (p0 p1 : List ℕ) → Keeps c0 c1 → p1 ≡ p0 → Sends c0 c1 p0 p1
-sends-nothing c0 c1 p0 p1 keeps same = record { first = []; writes = Appends-kept c0 c0 c1 [] (Appends-nil c0) keeps; whole = sym same }
 
 pub sends-on : (c0 c1 c2 : Option (List ℕ)) (p0 p1 p2 : List ℕ) → Sends c0 c1 p0 p1 → Sends c1 c2 p1 p2 → Sends c0 c2 p0 p2
 sends-on c0 c1 c2 p0 p1 p2 one two =

@@ -1,5 +1,5 @@
 -- The integer of a text is the one that was read.
-use Rattle.std.proofs.Common.{rules, ◌&&◌, if◌then◌else◌, ◌≡◌, ◌≢◌, ◌≤◌, IfSome, IfNone, ◌<◌, ◌^◌, arith, length, ℕ, ℤ, pos, negsuc, neg_ℤ, suc, List, [], ◌∷◌, Option, Some, None, FitsSigned, w64, Bool, true, nat_lt, get_or, sym, ap, ◌∙◌, refl}
+use Rattle.std.proofs.Common.{rules, ◌&&◌, if◌then◌else◌, ◌≡◌, ◌≢◌, IfSome, IfNone, ◌<◌, ◌^◌, arith, length, ℕ, ℤ, pos, negsuc, neg_ℤ, suc, List, [], ◌∷◌, Option, Some, None, FitsSigned, w64, Bool, true, nat_lt, get_or, sym, ap, ◌∙◌, refl}
 use Rattle.std.specs.Int.Signed.{mag}
 use Rattle.std.specs.Fmt.{signed_decimal, decimal}
 use Rattle.std.specs.Str.{bytes_eq}

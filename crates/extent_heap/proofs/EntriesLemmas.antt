@@ -200,16 +200,6 @@ empty_set end small entries words blocks entries_are words_are blocks_are =
 abbrev pub AreFreeBelow : ℕ → ℕ → List Bool → Type 0
 AreFreeBelow end n entries = (length entries ≡ end) × ((i : ℕ) → is_free entries i ≡ nat_lt i n)
 
-pub none_below_zero : (end : ℕ) → AreFreeBelow end 0 (replicate end false)
-none_below_zero end = (length-replicate end false, λ i. elim (cases_lt i end) [ inl below ↦ get_or-replicate end i false false below ∙ grind (arith, nat_tests) | inr past ↦ get_or_past (replicate end false) i false (omega (arith, length-replicate end false)) ∙ grind (arith, nat_tests) ])
-
-pub next_taken : (end n : ℕ) (entries : List Bool) → AreFreeBelow end n entries → is_free entries n ≡ false
-next_taken end n entries are = are.1 n ∙ grind (arith, nat_tests)
-
-pub one_more_free : (end n : ℕ) (entries : List Bool) → AreFreeBelow end n entries → n < end → AreFreeBelow end (n + 1) (set entries n true)
-one_more_free end n entries are within =
-    (length-set entries n true ∙ are.0, λ i. free_set entries n true i (omega (arith, are.0)) ∙ grind (arith, nat_tests, are.1 i))
-
 pub all_free : (end : ℕ) (entries : List Bool) → AreFreeBelow end end entries → entries ≡ replicate end true
 all_free end entries are =
     ext_get_or false entries (replicate end true) (are.0 ∙ sym (length-replicate end true))

@@ -1,12 +1,9 @@
 -- A heap's calls, seen as changes of a room.
-use Rattle.std.proofs.Common.{◌≡◌, ℕ, ◌+◌, ◌-◌, ◌<◌, ◌≤◌, ◌↔◌, IsTrue, List, inl, inr, sym, ◌∙◌, subst, true≢false, arith}
-use Rattle.std.proofs.lemmas.Bool.{cases_lt}
+use Rattle.std.proofs.Common.{◌≡◌, ℕ, ◌+◌, ◌-◌, ◌<◌, ◌≤◌, ◌↔◌, IsTrue, List, sym, subst, arith}
 use Rattle.std.proofs.lemmas.Bool.Decides.{nat_tests}
-use Rattle.kv_types.specs.declared.place.EntryNo.{EntryNo}
 use Rattle.kv_types.specs.declared.place.Extent.{Extent}
-use Rattle.extent_heap.specs.Entries.{IsLowest}
 use Rattle.extent_heap.specs.Runs.{has_line, longest, some_run, IsFirstFit}
-use Rattle.extent_heap.specs.Room.{Room, IsRoom, IsFreeRun, ClaimsExtent, TakesExtent, ClaimsEntry, TakesEntry}
+use Rattle.extent_heap.specs.Room.{Room, IsRoom, IsFreeRun, ClaimsExtent, TakesExtent}
 use Rattle.extent_heap.proofs.FitLemmas.{no_fit, fit_lowest, fit_in}
 
 pub fresh_lines : (first end free : ℕ) (runs : List Extent) → runs ≡ some_run (record { first_line = first; lines = free }) → free ≡ end - first → (line : ℕ)
@@ -27,10 +24,3 @@ module _ (room : Room) (is_room : IsRoom room) where
 
   pub none_is_free : (lines : ℕ) → longest room.lines < lines → (first : ℕ) → ¬ IsFreeRun room first lines
   none_is_free lines short first free = no_fit 0 (room.end_line + 1) lines first room.lines is_room.lines short free
-
-  pub takes_entry : (new : Room) (entry : EntryNo) → IsLowest room.entries entry.0 → ClaimsEntry room entry new → TakesEntry room entry new
-  takes_entry new entry lowest after = record {
-    free = lowest.is;
-    lowest = λ i free. elim (cases_lt i entry.0) [ inl before ↦ absurd (true≢false (sym free ∙ lowest.before i before)) | inr from ↦ from ];
-    after = after;
-  }

@@ -18,11 +18,6 @@ use Rattle.group_commit.specs.declared.stage.Stage.TheVariants.{Ready, Durable, 
 
 -- ---- what waits
 
--- free lists alone are no group
-pub no_group-lists : (lists : List FreeList) → has_group (map work.Free lists) ≡ false
-no_group-lists [] = refl
-no_group-lists (list ∷ lists) = no_group-lists lists
-
 pub group-behind : (lists : List FreeList) (group : Group) (rest : List Work) → has_group (map work.Free lists ++ work.Commit group ∷ rest) ≡ true
 group-behind [] group rest = refl
 group-behind (list ∷ lists) group rest = group-behind lists group rest

@@ -105,10 +105,6 @@ many-more items i item below is =
     ap many_in (take_more items i item below ∙ ap (λ x. take i items ++ x ∷ []) (sym is)) ∙ ap length (groups_of-append (take i items) (item ∷ []))
     ∙ length-append (groups_of (take i items)) (groups_of (item ∷ []))
 
-pub many-at-once : (item : Work) → many_in (item ∷ []) ≤ 1
-many-at-once (work.Commit group) = omega arith
-many-at-once (work.Free list) = omega arith
-
 pub many-of-two : (first second items : List Work) → first ++ second ≡ items → many_in first + many_in second ≡ many_in items
 many-of-two first second items is =
     sym (ap many_in (sym is) ∙ ap length (groups_of-append first second) ∙ length-append (groups_of first) (groups_of second))

@@ -1,11 +1,10 @@
 -- What a turn comes to, of what its parts did.
-use Rattle.std.proofs.Common.{rules, ◌≡◌, ◌≢◌, ◌↔◌, ◌⊎◌, inl, inr, ℕ, zero, suc, ◌==◌, ◌<◌, Bool, true, false, IsTrue, List, [], ◌∷◌, ◌++◌, length, drop, Result, Ok, Err, slice_index_or, nat_lt, Global, refl, sym, ap, subst, ◌∙◌, arith, true≢false}
+use Rattle.std.proofs.Common.{rules, ◌≡◌, ◌≢◌, ◌↔◌, ◌⊎◌, inl, inr, ℕ, zero, suc, ◌==◌, ◌<◌, Bool, true, false, IsTrue, List, [], ◌∷◌, ◌++◌, length, drop, Result, Ok, slice_index_or, nat_lt, Global, refl, sym, ap, subst, ◌∙◌, arith, true≢false}
 use Rattle.std.specs.declared.collections.VecDeque.{VecDeque}
 use Rattle.std.proofs.lemmas.Grind.{flat_map-append}
 use Rattle.pipes.specs.Waiting.{Waiting}
 use Rattle.pmem.specs.Device.{State}
 use Rattle.kv_types.specs.declared.refusal.Refusal.{Refusal}
-use Rattle.kv_types.specs.declared.refusal.Refusal.TheVariants.{Memory}
 use Rattle.model.specs.declared.group.Group.{Group}
 use Rattle.model.specs.declared.work.FreeList.{FreeList}
 use Rattle.model.specs.declared.work.Work.{Work}
@@ -14,7 +13,7 @@ use Rattle.model.specs.Group.{AreEnded, Contents}
 use Rattle.group_commit.specs.Committing.{Commits, HasShown}
 use Rattle.group_commit.specs.Due.{due_now, has_group, left_by, reached_by}
 use Rattle.group_commit.specs.Group.{lists_before, lists_of}
-use Rattle.group_commit.specs.Working.{FreesFirst, HandsOn, IsLawful, LacksRoom, Takes, entries_of_lists}
+use Rattle.group_commit.specs.Working.{FreesFirst, HandsOn, IsLawful, Takes, entries_of_lists}
 use Rattle.group_commit.specs.declared.committer.Committer.{Committer}
 use Rattle.group_commit.specs.declared.due.Due.{Due}
 use Rattle.group_commit.specs.declared.stage.Done.{Done}
@@ -83,11 +82,6 @@ module _ {E : Type 0} (device : E → State) (contents : E → Contents) (is_fau
     pub frees-from : (list : FreeList) (rest : List FreeList) (result : Result Done Refusal) (new : Committer E) → FreesFirst device contents is_faulted middle list rest result new
         → FreesFirst device contents is_faulted old list rest result new
     frees-from list rest result new it = search rules
-
-    -- nothing was set aside
-    pub lacks-room : (before after : Waiting Work) (result : Result Done Refusal) → result ≡ Err Memory → aside.items ≡ old.aside.items → after ≡ before
-        → LacksRoom device contents is_faulted old before result middle after
-    lacks-room before after result answer same queue = record { answer = answer; engine = refl; stage = refl; local = refl; aside = same; queue = queue }
 
     pub freed-from : (before after : Waiting Work) (list : FreeList) (rest : List FreeList) (result : Result Done Refusal) (new : Committer E) → AllAside old.aside.items before.items aside.items after.items
         → reached_by true old.aside.items before.items ≡ list ∷ rest

@@ -60,9 +60,6 @@ pub record GivenSoFar (before now : List Item) (old new : Inbound) : Type 0 wher
   pub later : (more : List ℕ) → now ++ to_come (with_piece new more) ≡ before ++ to_come (with_piece old more)
   pub closing : (new.is_closed || list_any closes (to_come new)) ≡ (old.is_closed || list_any closes (to_come old))
 
-pub none-so-far : (before : List Item) (old : Inbound) → GivenSoFar before before old old
-none-so-far before old = record { later = λ more. refl; closing = refl }
-
 pub one-more : (before now now' : List Item) (old new new' : Inbound) (item : Item) → GivenSoFar before now old new → Advances new (Some item) new' → new'.is_closed ≡ (new.is_closed || list_any closes (item ∷ []))
     → now' ≡ now ++ item ∷ [] → GivenSoFar before now' old new'
 one-more before now now' old new new' item given gives closed more = record {

@@ -5,10 +5,7 @@ use Rattle.std.proofs.lemmas.Bool.{cases_Bool, cond-true, cond-false, or_from, e
 use Rattle.journal.specs.Record.{Record, line_of, lines_of}
 use Rattle.journal.specs.Replay.{with_line, with_lines, replayed, has_line, is_recorded}
 use Rattle.journal.specs.Laws.{BringsItsLines, DoesNotMatter}
-
-or-assoc : (a b c : Bool) → ((a || b) || c) ≡ (a || (b || c))
-or-assoc true b c = refl
-or-assoc false b c = refl
+use Rattle.std.proofs.Math.Bool.{or_assoc}
 
 -- ---- one word after lines, by what it was before
 
@@ -50,7 +47,7 @@ pub is_recorded-append : (records more : List Record) (line : ℕ) → is_record
 is_recorded-append [] more line = refl
 is_recorded-append (r ∷ records) more line =
     ap (λ (b : Bool). has_line r.numbers line || b) (is_recorded-append records more line)
-    ∙ sym (or-assoc (has_line r.numbers line) (is_recorded records line) (is_recorded more line))
+    ∙ sym (or_assoc (has_line r.numbers line) (is_recorded records line) (is_recorded more line))
 
 -- ---- the record of lines of an image
 

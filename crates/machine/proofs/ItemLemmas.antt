@@ -1,8 +1,7 @@
 -- What an item with its reply does to the transaction of its connection.
 use Rattle.std.proofs.Common.{◌≡◌, ◌≢◌, Bool, true, false, cond, not, ◌&&◌, ◌||◌, ◌⊎◌, inl, inr, ℕ, ◌+◌, length, nat_lt, List, [], ◌∷◌, ◌++◌, drop, Option, Some, None, Result, Ok, Err, refl, sym, ap, subst, ◌∙◌, append-nil, codes}
 use Rattle.std.proofs.Math.Bool.{or-false, or-true}
-use Rattle.kv_types.specs.declared.item.Item.{Item}
-use Rattle.kv_types.specs.declared.item.Item.TheVariants.{Request, Fault}
+use Rattle.kv_types.specs.declared.item.Item.TheVariants.{Request}
 use Rattle.kv_types.specs.declared.reply.Reply.{Reply, Simple, Error, NullArray}
 use Rattle.kv_types.specs.Keyspace.{Keyspace}
 use Rattle.kv_types.proofs.OrderLemmas.{same_key}
@@ -26,7 +25,6 @@ use Rattle.multi_watch.specs.declared.limits.TheConstants.{MAX_QUEUED_REQUESTS}
 use Rattle.multi_watch.specs.declared.watch.Watch.{Watch}
 use Rattle.multi_watch.specs.Session.{Session, idle_session, watching, has_modified, spoiled}
 use Rattle.multi_watch.specs.Admission.{Step, Answer, RunAll, step_of, refused_of, admit, session_after_request, session_after_refusal}
-use Rattle.model.specs.Command.{closes}
 use Rattle.model.specs.Call.{MayAnswer, is_memory, memory_reply, session_after_item}
 use Rattle.machine.specs.Transaction.{is_multi, is_exec, is_discard, is_watch, is_unwatch, is_misuse, may_wait, is_error, is_ok, is_queued, is_array, is_null_array, is_aborted}
 
@@ -196,12 +194,6 @@ module _ (k : Keyspace) (words : List (List ℕ)) where
   answered v stays false queue sp watched reply known may = given v _ _ _ (inr (inr (search (never, sym (append-nil queue), sym (or-false sp))))) reply known may
 
 -- ---- an item
-
--- one that closes its connection leaves nothing
-pub closing_leaves : (session : Session) (item : Item) (reply : Reply) → closes item ≡ true → session_after_item session item reply ≡ idle_session
-closing_leaves session (Request words) reply e =
-    ap (λ b. cond b idle_session (cond (is_memory reply) (session_after_refusal session words) (session_after_request session words))) e
-closing_leaves session (Fault fault) reply e = refl
 
 -- any other is a request, and does this
 pub request_does : (k : Keyspace) (session : Session) (words : List (List ℕ)) (reply : Reply) → request_closes words ≡ false → MayAnswer k (admit session words) reply

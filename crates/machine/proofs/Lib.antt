@@ -27,5 +27,6 @@ pub mod EveryRun
 pub mod ItemLemmas
 pub mod TransactionLemmas
 pub mod WatchedLemmas
+pub mod RunWorlds
 pub mod WorkedRun
 pub mod NewcomerRun

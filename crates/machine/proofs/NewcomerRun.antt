@@ -1,75 +1,16 @@
 -- A new standby by a copy, world by world.
-use Rattle.std.proofs.Common.{◌≡◌, ℕ, Bool, true, false, cond, List, [], ◌∷◌, ◌++◌, take, drop, codes, slice_get, refl, sym, arith, inl, inr, true≢false, Some}
-use Rattle.kv_types.specs.declared.item.Item.{Item}
-use Rattle.kv_types.specs.declared.item.Item.TheVariants.{Request}
-use Rattle.kv_types.specs.declared.reply.Reply.{Reply, Simple}
+use Rattle.std.proofs.Common.{◌≡◌, ℕ, Bool, true, false, List, [], ◌∷◌, ◌++◌, take, drop, refl, arith, inl, inr, Some}
 use Rattle.kv_types.specs.Reading.{items_at}
 use Rattle.cmd_table.specs.Request.{outcome_of_words, closes}
 use Rattle.kv_types.specs.CommandName.{is_named}
 use Rattle.multi_watch.specs.Verb.{verb_of}
-use Rattle.model.specs.declared.call.Call.{Call}
 use Rattle.model.specs.declared.record.TheConstants.{FIRST_EPOCH}
-use Rattle.model.specs.Call.{MayReply, position_of, state_after}
 use Rattle.machine.specs.declared.event.Event.{Event}
-use Rattle.machine.specs.declared.event.Event.TheVariants.{Enter, Feed, Offer, Turn, CloseGroup, Commit, RaiseLocal, Hand, OpenLink, Send, Deliver, Apply, AckDelivered, RaiseRemote, Newcomer, PinCopy, SendCopy, Hold, Read, Release, Write, Promote}
-use Rattle.machine.specs.Event.{Frame, World, Part, End, Half, Sending, allowed_with, Run, Happens, is_enabled, Turns, Closes, Applies, start_with, last_world, acknowledged_of, acknowledgement_of, called, closed_group, committed_first, completed, copy_sent, delivered, entered, fed_with, handed, handed_to, having_read, having_released, held_first, joined, offered_next, on_inbound, on_outbound, opened_to, option_items, raised_local, raised_remote, ready_again, sent, told, with_acknowledged, with_committer, with_copying, with_ended, with_half, with_link, with_standby, without_first, written}
-use Rattle.machine.proofs.RunLemmas.{run-append, step-does, step-stays}
+use Rattle.machine.specs.declared.event.Event.TheVariants.{Commit, Send, Deliver, Apply, PinCopy, SendCopy, Promote}
+use Rattle.machine.specs.Event.{Frame, World, Part, End, Half, allowed_with, Run, Happens, Turns, Closes, Applies, start_with, last_world, acknowledgement_of, completed, told, with_acknowledged, with_half, with_standby, without_first}
+use Rattle.machine.proofs.RunLemmas.{run-append, step-does}
 use Rattle.machine.specs.Worked.{newcomer_events, newcomer_done, NewcomerIsARun}
-
-abbrev item : Item
-item = Request (codes "SET" ∷ codes "a" ∷ codes "1" ∷ [])
-
-abbrev ok : Reply
-ok = Simple (codes "OK")
-
-abbrev call : Call
-call = record { connection = 0; item = item; reply = ok }
-
--- the world after an event of this case but Apply
-abbrev after : World → Event → World
-after w Enter = entered w
-after w (Feed c piece) = on_inbound c (fed_with piece) w
-after w (Offer c) = on_inbound c offered_next w
-after w (Turn c) = called c call w
-after w CloseGroup = with_ended 0 0 (with_committer (closed_group (position_of w.primary.calls) w.primary.committer) w)
-after w Commit = with_committer (committed_first w.primary.committer.waiting w.primary.committer) w
-after w RaiseLocal = with_committer (raised_local w.primary.committer) w
-after w Hand = with_link (handed_to (handed w.primary.committer.stage) w.primary.link) (with_committer (ready_again w.primary.committer) w)
-after w Newcomer = joined w
-after w OpenLink = with_link (opened_to w.standby.role w.standby.position w.primary) (with_acknowledged (acknowledged_of w.standby.role w.standby) w)
-after w Send = sent w
-after w PinCopy = with_copying (Sending (record { position = position_of w.primary.calls; parts = 1; next = 0 })) w
-after w SendCopy = copy_sent w
-after w (Deliver frame piece) = with_standby (delivered (option_items (slice_get w.wire.frames frame)) w.standby) w
-after w (AckDelivered a) = with_link (told w.primary.epoch w.primary.committer.position (slice_get w.wire.acknowledgements a) w.primary.link) w
-after w RaiseRemote = with_link (raised_remote w.primary.link) w
-after w (Hold c) = on_outbound c held_first w
-after w (Read c mark) = on_outbound c (having_read mark w) w
-after w (Release c) = on_outbound c having_released w
-after w (Write c n) = on_outbound c (written n) w
-after w event = w
-
-abbrev worlds_from : World → List Event → List Bool → List World
-worlds_from w (event ∷ events) (did ∷ done) = let new = cond did (after w event) w in new ∷ worlds_from new events done
-worlds_from w events done = []
-
-abbrev Steps : World → List Event → List Bool → Type 0
-Steps w [] [] = Unit {0}
-Steps w (event ∷ events) (did ∷ done) = let new = cond did (after w event) w in (did ≡ is_enabled w event) × (did ≡ true → Happens w event new) × Steps new events done
-Steps w _ _ = ⊥
-
-runs : (w : World) (events : List Event) (done : List Bool) → Steps w events done → Run w events done (worlds_from w events done)
-runs w [] [] steps = tt
-runs w (event ∷ events) (true ∷ done) steps = (step-does (sym steps.0) (steps.1 refl), runs (after w event) events done steps.2)
-runs w (event ∷ events) (false ∷ done) steps = (step-stays (sym steps.0), runs w events done steps.2)
-runs w events done steps = absurd steps
-
-never : (X : Type 0) → false ≡ true → X
-never X e = absurd (true≢false (sym e))
-
-may_reply : MayReply (state_after []) call
-unfolding outcome_of_words verb_of closes is_named
-may_reply = inr (inr (inl (omega arith, refl)))
+use Rattle.machine.proofs.RunWorlds.{call, after, worlds_from, Steps, runs, never, may_reply}
 
 -- ---- up to the first Apply
 

@@ -1,5 +1,5 @@
 -- What each event of the nodes leaves sound.
-use Rattle.std.proofs.Common.{◌≡◌, ℕ, ◌+◌, ◌<◌, ◌≤◌, max, true, false, not, ◌||◌, cond, nat_le, nat_lt, List, [], ◌∷◌, ◌++◌, length, map, drop, All, Option, Some, None, slice_get, refl, sym, ap, ◌∙◌, subst, arith, le_refl, inl, inr}
+use Rattle.std.proofs.Common.{◌≡◌, ℕ, ◌<◌, ◌≤◌, max, true, false, not, ◌||◌, cond, nat_le, nat_lt, List, [], ◌∷◌, ◌++◌, length, map, drop, All, Option, Some, None, slice_get, refl, sym, ap, ◌∙◌, subst, arith, le_refl, inl, inr}
 use Rattle.std.proofs.lemmas.Bool.{ltb-true}
 use Rattle.std.proofs.lemmas.List.Elements.{All-append, All-drop, All-head, All-weaker, All-nil}
 use Rattle.kv_types.specs.declared.seen.Seen.{Seen}

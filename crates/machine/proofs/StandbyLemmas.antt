@@ -1,5 +1,5 @@
 -- The standby and the wire after each event: frames tell committed changes, and no acknowledgement has a position above the standby's.
-use Rattle.std.proofs.Common.{◌≡◌, ℕ, zero, suc, ◌<◌, ◌≤◌, true, false, ◌&&◌, ◌||◌, cond, nat_eq, List, [], ◌∷◌, ◌++◌, take, All, slice_get, Option, None, subst, refl, sym, arith, le_refl, ◌∙◌, ap, inl, inr, eqb-true}
+use Rattle.std.proofs.Common.{◌≡◌, ℕ, zero, suc, ◌<◌, ◌≤◌, true, false, cond, nat_eq, List, [], ◌∷◌, ◌++◌, take, All, slice_get, Option, None, subst, refl, sym, arith, le_refl, ◌∙◌, ap, inl, inr, eqb-true}
 use Rattle.std.proofs.lemmas.Bool.{and_parts}
 use Rattle.std.proofs.lemmas.List.Elements.{All-nil, All-cons, All-append, All-head, All-tail, All-take, All-weaker}
 use Rattle.machine.specs.Event.{Span, Told, Changes, Part, End, Role, Follower, Uncopied, Half, Frame, Acknowledgement, At, AsFollower, Standby, Wire, Takes, TakesChanges, TakesEnd, TakesOwn, acknowledged_of, acknowledgement_of, completed, counts, has_all, left_by_first, left_by_told, moved_to, option_items, with_half}

@@ -9,7 +9,7 @@ use Rattle.machine.specs.declared.event.Event.{Event}
 use Rattle.machine.specs.declared.event.Event.TheVariants.{Apply, FailFence, Crash, Reopen, Promote}
 use Rattle.machine.specs.declared.event.Node.{Node}
 use Rattle.machine.specs.declared.event.Node.TheVariants as nodes
-use Rattle.machine.specs.Event.{Life, Running, Stopped, Crashed, Retired, Remains, At, AsPrimary, AsFollower, World, Fails, Step, crashed, is_between, is_crashed, is_enabled, is_follower, is_retired, is_running, is_stopped, left_by, life_of, may_cut, may_happen, may_remain, next_primary, promoted, torn}
+use Rattle.machine.specs.Event.{Life, Running, Stopped, Crashed, Retired, Remains, At, AsPrimary, AsFollower, World, Fails, Step, is_between, is_crashed, is_enabled, is_follower, is_retired, is_running, is_stopped, left_by, life_of, may_cut, may_happen, may_remain, next_primary, torn}
 use Rattle.machine.specs.Row.{touches}
 use Rattle.machine.specs.Sound.{IsPrimaryLeft, Sound}
 use Rattle.model.specs.Call.{is_nonempty, position_of}
@@ -49,12 +49,6 @@ remains-primary w call remain sound one =
     All-contains IsAt (may_remain w nodes.Primary call) remain
     (All-cons IsAt (At w.primary.committer.position) (torn w.primary.life ++ left_by w nodes.Primary call) tt
     (All-append IsAt (torn w.primary.life) (left_by w nodes.Primary call) (All-weaker (IsPrimaryLeft w.primary.committer.position (position_of w.primary.calls)) IsAt (at-left w.primary.committer.position (position_of w.primary.calls)) (torn w.primary.life) sound.primary_left) (left-primary w call))) one
-
--- a crash of the standby after which the primary has another device left the image of a primary
-pub crashed-ahead : (w new : World) (remain : Remains) → new ≡ crashed nodes.Standby remain w → (new.primary.disk.number ≡ w.primary.disk.number → ⊥) → new ≡ promoted w
-crashed-ahead w new (At position) now other = absurd (other (ap (λ (x : World). x.primary.disk.number) now))
-crashed-ahead w new AsPrimary now other = now
-crashed-ahead w new (AsFollower position) now other = absurd (other (ap (λ (x : World). x.primary.disk.number) now))
 
 -- ---- an event
 

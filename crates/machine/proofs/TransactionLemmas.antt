@@ -14,10 +14,10 @@ use Rattle.model.specs.declared.call.Call.{Call}
 use Rattle.model.specs.Command.{closes}
 use Rattle.model.specs.State.{State, start_state}
 use Rattle.model.specs.Call.{MayReply, changes_of, session_after_item, session_after, IsLegal, IsLegalFrom, after_call, state_from, state_after}
-use Rattle.model.proofs.SessionLemmas.{marks, session_after-own, session_after-other}
+use Rattle.model.proofs.SessionLemmas.{marks, session_after-own, session_after-other, item-closed}
 use Rattle.machine.specs.Transaction.{asks, is_watch, is_unwatch, words_of, is_ok, opens_one, ends_it, spoils_it, waits_in_it, is_by, does_by, queued_by, is_multi, NoneDoes, Opened, queue_of}
 use Rattle.machine.specs.Transaction.{is_spoiled_from, session_now}
-use Rattle.machine.proofs.ItemLemmas.{Does, ends_of, spoils_of, watched_of, closing_leaves, request_does, closing_only}
+use Rattle.machine.proofs.ItemLemmas.{Does, ends_of, spoils_of, watched_of, request_does, closing_only}
 use Rattle.multi_watch.specs.declared.verb.Verb.{Verb}
 use Rattle.multi_watch.specs.declared.verb.Verb.TheVariants as verb
 use Rattle.model.proofs.CallsLemmas.{state_from-append, IsLegalFrom-rest}
@@ -84,7 +84,7 @@ module _ (s : State) (c : ℕ) where
   closing : (item : Item) (reply : Reply) → closes item ≡ true → let call : Call = record { connection = c; item = item; reply = reply } in EndsAt c call (session_after s call c)
   closing item reply shuts =
       let call : Call = record { connection = c; item = item; reply = reply } in
-      let over = session_after-own s call ∙ ap (marks s call) (closing_leaves (s.sessions c) item reply shuts) in
+      let over = session_after-own s call ∙ ap (marks s call) (item-closed (s.sessions c) item reply shuts) in
       record {
         ends = and_from (nat_eq c c) (ends_it item reply) itself (or_left (closes item) _ shuts);
         is_open = ap (λ (t : Session). t.is_open) over;

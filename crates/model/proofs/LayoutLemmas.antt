@@ -54,12 +54,6 @@ slots_within Version1 lines many = omega arith
 slots_within Version2 lines many = omega arith
 slots_within Halfway lines many = omega arith
 
--- a slot of any image of this many lines, or of fewer, ends where a number can still say it
-pub slots_bound : (layout : Layout) (lines : ℕ) → slots_end layout lines ≤ 26 + directory_room lines
-slots_bound Version1 lines = omega arith
-slots_bound Version2 lines = omega arith
-slots_bound Halfway lines = omega arith
-
 -- the slot of record n is behind the superblock, before the extents, and shares no line with the directory
 pub record SlotAt (layout : Layout) (lines n : ℕ) : Type 0 where
   pub behind : 1 ≤ slot_line layout lines n

@@ -18,9 +18,6 @@ IsPrefix-of_append xs ys = record { rest = ys; joined = refl }
 pub IsPrefix-trans : {X : Type 0} {xs ys zs : List X} → IsPrefix xs ys → IsPrefix ys zs → IsPrefix xs zs
 IsPrefix-trans {xs = xs} a b = record { rest = a.rest ++ b.rest; joined = sym (append_assoc xs a.rest b.rest) ∙ ap (λ prefix. prefix ++ b.rest) a.joined ∙ b.joined }
 
-pub IsPrefix-append : {X : Type 0} {xs ys : List X} (more : List X) → IsPrefix xs ys → IsPrefix xs (ys ++ more)
-IsPrefix-append {ys = ys} more a = IsPrefix-trans a (IsPrefix-of_append ys more)
-
 pub IsPrefix-cons : {X : Type 0} {xs ys : List X} (x : X) → IsPrefix xs ys → IsPrefix (x ∷ xs) (x ∷ ys)
 IsPrefix-cons x a = record { rest = a.rest; joined = ap (λ whole. x ∷ whole) a.joined }
 

@@ -23,9 +23,6 @@ clash_itself (Field key field) = grind (arith, key_itself key, record_itself (Fi
 clash_with_string : (other : RecordId) (key : List ℕ) → is_clash other (Str key) ≡ is_same_key (key_of other) key
 clash_with_string other key = grind arith
 
-clash_of_string : (a key field : List ℕ) → is_clash (Str a) (Field key field) ≡ is_same_key a key
-clash_of_string a key field = grind arith
-
 -- whether some record of the keyspace clashes with this one
 abbrev clashes : Keyspace → RecordId → Bool
 clashes s id = list_any (λ (entry : RecordId × List ℕ). is_clash entry.0 id) s
@@ -99,13 +96,6 @@ AddsEntry-put r image i s new id value begun going id_is value_is none played =
           let same : version ≡ other = cc in
           ap (value_at s) (ap (λ (v : Version). v.id) (sym same) ∙ sym id_is) ∙ value_at-no_clash s id none;
     }
-
--- an entry that is not live adds nothing
-pub AddsEntry-ended : (r : Record) (image : Image) (i : ℕ) (s : Keyspace) → counts r (image (entry_word i 0)) ≡ true → counts r (image (entry_word i 1)) ≡ true → AddsEntry (version_at r image) i s s
-AddsEntry-ended r image i s begun ended = record { added = grind arith; fresh = λ other is not_ended. grind arith }
-
-pub AddsEntry-none : (r : Record) (image : Image) (i : ℕ) (s : Keyspace) → counts r (image (entry_word i 0)) ≡ false → AddsEntry (version_at r image) i s s
-AddsEntry-none r image i s free = record { added = grind arith; fresh = λ other is not_ended. grind arith }
 
 pub CannotAdd-clash : (lines : ℕ) (r : Record) (image : Image) (i : ℕ) (s : Keyspace) (id : RecordId) → counts r (image (entry_word i 0)) ≡ true → counts r (image (entry_word i 1)) ≡ false → id ≡ (record_in image i).0
     → clashes s id ≡ true → CannotAdd lines r image i s

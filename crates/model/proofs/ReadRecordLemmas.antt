@@ -93,11 +93,6 @@ pub record IsSought (layout : Layout) (lines : ℕ) (image : Image) (number firs
 
 -- ---- no record
 
--- where the version is none
-pub no_record-version : (lines : ℕ) (image : Image) (number : ℕ) → image 1 ≡ number → ((layout : Layout) → version layout ≢ number) → (r : Record)
-    → IsRecordOf lines image r → ⊥
-no_record-version lines image number at none r is = none r.layout (sym is.version_is ∙ at)
-
 -- what is known of a record's slot where the root is this number
 record IsAt (image : Image) (number first : ℕ) (r : Record) : Type 0 where
   number_is : image first ≡ number
@@ -133,15 +128,6 @@ at_root lines image number first r sought is =
       unused = rw (length-pairs r.gaps.items) at (HasWords-rest image (first + 6) pairs unused middle);
       role = after.0;
     }
-
-pub no_record-count : (layout : Layout) (lines : ℕ) (image : Image) (number first count : ℕ) → IsSought layout lines image number first
-    → image (first + 5) ≡ count → max_gaps layout < count → (r : Record) → IsRecordOf lines image r → ⊥
-no_record-count layout lines image number first count sought at many r is =
-    let same = layout_sought layout lines image number first r sought is in
-    let stands = at_root lines image number first r (subst (λ (l : Layout). IsSought l lines image number first) same sought) is in
-    let room = ap max_gaps same in
-    let length_is = stands.count in
-    omega (arith, is.few, many, at, room, length_is)
 
 pub no_record-role : (layout : Layout) (lines : ℕ) (image : Image) (number first code : ℕ) → IsSought layout lines image number first
     → image (first + role_word layout) ≡ code → ((role : Role) → role_number role ≢ code) → (r : Record) → IsRecordOf lines image r → ⊥

@@ -4,7 +4,7 @@ use Rattle.std.specs.List.{list_any}
 use Rattle.std.specs.FinMap.Entries.{where_key, by_order}
 use Rattle.std.specs.declared.cmp.Ordering.{Ordering}
 use Rattle.std.specs.declared.cmp.Ordering.TheVariants.{Less, Equal, Greater}
-use Rattle.std.proofs.Math.Bool.{or-false, and-true, and-false}
+use Rattle.std.proofs.Math.Bool.{or-false, and-true, and-false, or_assoc}
 use Rattle.std.proofs.lemmas.Bool.{false_from_ne_true, or_parts, or_left, or_right}
 use Rattle.std.proofs.lemmas.List.Folds.{list_any-append}
 use Rattle.kv_types.specs.declared.record_id.RecordId.{RecordId}
@@ -125,15 +125,12 @@ stays-play_all s (change ∷ changes) id kept =
 
 -- ---- marking in parts
 
-or_more : (was a b : Bool) → ((was || a) || b) ≡ (was || (a || b))
-or_more was a b = grind arith
-
 abbrev pub with_mark : List ℕ → Bool → Watch
 with_mark key is_modified = record { key = key; is_modified = is_modified }
 
 marked_where-twice : (p q : List ℕ → Bool) (watched : List Watch) → map (marked_where q) (map (marked_where p) watched) ≡ map (marked_where (λ own. p own || q own)) watched
 marked_where-twice p q [] = refl
-marked_where-twice p q (watch ∷ watched) = ap₂ (λ b ws. with_mark watch.key b ∷ ws) (or_more watch.is_modified (p watch.key) (q watch.key)) (marked_where-twice p q watched)
+marked_where-twice p q (watch ∷ watched) = ap₂ (λ b ws. with_mark watch.key b ∷ ws) (or_assoc watch.is_modified (p watch.key) (q watch.key)) (marked_where-twice p q watched)
 
 marked_where-none : (watched : List Watch) → map (marked_where (λ own. false)) watched ≡ watched
 marked_where-none [] = refl

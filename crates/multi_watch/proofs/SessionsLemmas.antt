@@ -159,7 +159,7 @@ module _ (table new : Table) (old now : Sessions) (number : ℕ) (o : Option Ses
       (λ key n is. (adds key n ∙ not_added (watches table key n) (is_watched key fresh) (nat_eq number n) is ∙ other_session key n is))
 
   -- Where the session watches what it did, the table says the same.
-  pub agrees_unchanged : (session_of o).watched ≡ (session_at old number).watched → Agree table now
+  agrees_unchanged : (session_of o).watched ≡ (session_at old number).watched → Agree table now
   agrees_unchanged same =
       by_number table now number (λ key. (agree key number ∙ ap (is_watched key) (sym same) ∙ sym (this_session key))) other_session
 
@@ -179,3 +179,9 @@ set_others (first ∷ old) (suc number) now (suc other) apart = set_others old n
 
 pub moves_set : (old : Sessions) (number : ℕ) (before now : Session) → slot old number ≡ Some before → Moves old number (Some now) (slice_set old number (Some now))
 moves_set old number before now is = record { moved = set_here old number before now is; others = set_others old number (Some now) }
+
+-- A session is written that watches what it did.
+pub agrees_written : (table : Table) (old : Sessions) (number : ℕ) (before now : Session) → Agree table old → slot old number ≡ Some before
+    → now.watched ≡ (session_at old number).watched → Agree table (slice_set old number (Some now))
+agrees_written table old number before now agree is same =
+    agrees_unchanged table table old (slice_set old number (Some now)) number (Some now) agree (moves_set old number before now is) same

@@ -1,5 +1,5 @@
 -- The watched keys of one session, as the entries of a table whose keys differ.
-use Rattle.std.proofs.Common.{◌≡◌, ℕ, Bool, true, false, cond, ◌||◌, List, [], ◌∷◌, ◌++◌, map, Option, None, Some, Result, Ok, Err, OnOk, refl, sym, ap, ap₂, ◌∙◌, arith, append_assoc, append-nil}
+use Rattle.std.proofs.Common.{◌≡◌, ℕ, Bool, true, false, cond, ◌||◌, List, [], ◌∷◌, ◌++◌, map, None, Result, Ok, Err, OnOk, refl, sym, ap, ap₂, ◌∙◌, arith, append_assoc, append-nil}
 use Rattle.std.specs.Prelude.{is_some}
 use Rattle.std.specs.Global.{Vec}
 use Rattle.std.specs.List.{list_any, AllByRecursion, IsDistinct}
@@ -34,13 +34,6 @@ found_watched own (mark ∷ marks) = grind (arith, flipped own mark.0.items, fou
 pub keys_watched : (own : List ℕ) (marks : Marks) → is_key_in own (keys_of marks) ≡ is_watched own (watches_of marks)
 keys_watched own [] = refl
 keys_watched own (mark ∷ marks) = ap (λ b. same_bytes mark.0.items own || b) (keys_watched own marks)
-
-none_there : (o : Option Bool) → is_some o ≡ false → o ≡ None
-none_there None e = refl
-none_there (Some b) e = cc
-
-pub absent : (own : List ℕ) (marks : Marks) → is_watched own (watches_of marks) ≡ false → lookup (is_at own) marks ≡ None
-absent own marks new = none_there (lookup (is_at own) marks) (found_watched own marks ∙ new)
 
 -- ---- marking a key
 

@@ -26,7 +26,8 @@ use Rattle.mv_keyspace.specs.Slot.{rows_of}
 use Rattle.mv_keyspace.specs.Slots.{Slots, rows_in, slot_at, AreOfKey, AreSlots}
 use Rattle.mv_keyspace.proofs.AllLemmas.{All-append, All-map, All-prefix, All-rest}
 use Rattle.mv_keyspace.proofs.EndingLemmas.{AreInOrder}
-use Rattle.mv_keyspace.proofs.SlotLemmas.{table_of-append}
+use Rattle.mv_keyspace.proofs.SlotLemmas.{table_of-append, OwnRows}
+use Rattle.mv_keyspace.proofs.WritingLemmas.{is_eq_Equal}
 
 -- ---- parts of rows in order
 
@@ -80,9 +81,6 @@ rows_in-append (e ∷ es) more = ap (λ rows. rows_of e.0 e.1 ++ rows) (rows_in-
 rows_in-last : (es : Slots) (e : List ℕ × Slot) → rows_in (es ++ e ∷ []) ≡ rows_in es ++ rows_of e.0 e.1
 rows_in-last es e = rows_in-append es (e ∷ []) ∙ ap (λ rows. rows_in es ++ rows) (append-nil (rows_of e.0 e.1))
 
-abbrev OwnRows : List ℕ × Slot → Type 0
-OwnRows e = AreOfKey e.0 (table_of (rows_of e.0 e.1))
-
 module _ (es : Slots) (last : List ℕ × Slot) (row : Row) (order : AreInOrder (rows_in (es ++ last ∷ []) ++ row ∷ [])) where
   split : rows_in (es ++ last ∷ []) ++ row ∷ [] ≡ rows_in es ++ (rows_of last.0 last.1 ++ row ∷ [])
   split = ap (λ rows. rows ++ row ∷ []) (rows_in-last es last) ∙ append_assoc (rows_in es) (rows_of last.0 last.1) (row ∷ [])
@@ -112,13 +110,6 @@ module _ (es : Slots) (last : List ℕ × Slot) (row : Row) (order : AreInOrder 
         sorted = subst (IsStrictlySortedBy bytes_cmp) (keys_of-append es (last ∷ []) ∙ sym (keys_of-append es ((last.0, slot) ∷ []))) slots.sorted;
         own = All-append OwnRows es ((last.0, slot) ∷ []) (All-prefix OwnRows es (last ∷ []) slots.own) (of-joined slots.own, tt);
       }
-
-      pub joined-filled : 1 ≤ length (rows_of last.0 slot)
-      joined-filled = subst (λ rows. 1 ≤ length rows) (sym here) (filled-last (rows_of last.0 last.1))
-        where
-          filled-last : (rows : List Row) → 1 ≤ length (rows ++ row ∷ [])
-          filled-last [] = omega arith
-          filled-last (first ∷ rows) = omega arith
 
   -- it is of another key, which is greater
   module _ (filled : 1 ≤ length (rows_of last.0 last.1)) (slots : AreSlots (es ++ last ∷ [])) (other : last.0 ≡ key_of row.id → ⊥) where
@@ -189,9 +180,6 @@ none-behind : (e : List ℕ × Slot) (es : Slots) → IsStrictlySortedBy bytes_c
 none-behind e es sorted =
     lookup-none (is_at (bytes_cmp e.0)) es
     (none_past_head (eq_by_cmp_equiv nat_list_cmp_total) e.0 e es (IsDistinct-from_sorted bytes_cmp (keys_of (e ∷ es)) sorted) (ap is_eq (tied_itself nat_list_cmp_total e.0)))
-
-is_eq_Equal : (o : Ordering) → is_eq o ≡ true → o ≡ Equal
-is_eq_Equal o e = grind arith
 
 same_value : (slot other : Slot) → Some slot ≡ Some other → slot ≡ other
 same_value slot other e = cc

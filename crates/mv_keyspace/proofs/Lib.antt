@@ -25,3 +25,4 @@ pub mod PastLemmas
 pub mod NotedLemmas
 pub mod ShownLemmas
 pub mod PagingLemmas
+pub mod PageSizes

@@ -129,7 +129,7 @@ pub rows_in-removed : (key : List ℕ) (es : Slots) → rows_at key es ≡ [] �
 rows_in-removed key [] empty = refl
 rows_in-removed key (e ∷ es) empty = grind (arith, rows_in-removed key es)
 
-abbrev OwnRows : List ℕ × Slot → Type 0
+abbrev pub OwnRows : List ℕ × Slot → Type 0
 OwnRows e = AreOfKey e.0 (table_of (rows_of e.0 e.1))
 
 own-inserted : (key : List ℕ) (slot : Slot) (es : Slots) → AreOfKey key (table_of (rows_of key slot)) → AllByRecursion OwnRows es → AllByRecursion OwnRows (insert_entry bytes_cmp es key slot)

@@ -95,7 +95,7 @@ module _ (key : List ℕ) (es : Slots) (slots : AreSlots es) (missing : slot_at 
 
 -- ---- how many rows are awaited
 
-is_eq_Equal : (o : Ordering) → is_eq o ≡ true → o ≡ Equal
+pub is_eq_Equal : (o : Ordering) → is_eq o ≡ true → o ≡ Equal
 is_eq_Equal o e = grind arith
 
 module _ (key q : List ℕ) (es after : Slots) (other : Slot) (updates : slot_at q after ≡ cond (is_at (bytes_cmp key) q) (Some other) (slot_at q es)) where

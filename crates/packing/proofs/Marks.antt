@@ -98,9 +98,6 @@ taken_more before after count extents are took =
 -- The extent of this index goes to lines that were free, and leaves those that it had.
 module _ (before mid after : List Bool) (extents : List Extent) (at : ℕ) (to : Extent) (all : AllTaken before extents) (has : at < length extents) (took : Takes before to mid)
     (left : IsMarked mid (nth extents at).first_line (end_of (nth extents at)) false after) where
-  gone : Extent
-  gone = nth extents at
-
   moved : List Extent
   moved = set extents at to
 

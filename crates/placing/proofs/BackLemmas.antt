@@ -27,7 +27,7 @@ use Rattle.placing.specs.Rebuilt.{IsLineOfVersion}
 use Rattle.placing.proofs.ClaimLemmas.{not_line_of}
 use Rattle.placing.proofs.CountLemmas.{AreBelow, changes_counted, none_counted}
 use Rattle.placing.proofs.LeftLemmas.{HasGood, after_parts, good_changes, still_free, swapped}
-use Rattle.placing.proofs.MemberLemmas.{distinct_none}
+use Rattle.placing.proofs.MemberLemmas.{distinct_none, unlisted}
 use Rattle.placing.proofs.PartsLemmas.{parts_versions-append, puts_of_parts-append}
 use Rattle.placing.proofs.TakenLemmas.{All-map, All-prefix, All-rest, AreDistinct-from_apart, IsFree, IsWithin, not_free, not_put_at_free, places_apart, places_below, places_free, places_held, places_within}
 
@@ -48,10 +48,6 @@ once_front xs ys once = distinct_front (numbers_of xs) (numbers_of ys) (rw map-a
 once_back : (xs ys : List EntryNo) → IsDistinct nat_eq (numbers_of (xs ++ ys)) → IsDistinct nat_eq (numbers_of ys)
 once_back [] ys once = once
 once_back (x ∷ xs) ys once = once_back xs ys (IsDistinct-tail nat_eq x.0 (numbers_of (xs ++ ys)) once)
-
-unlisted : (n : ℕ) (ys : List EntryNo) → AllByRecursion (λ m. nat_eq n m ≡ false) (numbers_of ys) → is_listed n ys ≡ false
-unlisted n [] apart = refl
-unlisted n (y ∷ ys) apart = grind (arith, unlisted n ys apart.1)
 
 -- an entry of the second part is none of the first
 listed_beside : (xs ys : List EntryNo) → IsDistinct nat_eq (numbers_of (xs ++ ys)) → (i : ℕ) → IsTrue (is_listed i ys) → is_listed i xs ≡ false
@@ -255,12 +251,6 @@ module _ (contents after : Contents) (position : ℕ) (changes : List PlacedChan
     lines_back = λ line has. line_after line (back.lines_back line has);
     out = out_after;
   }
-
-pub comes-back-taken : (contents : Contents) (position : ℕ) (room left : Room) (changes : List PlacedChange) (e : List EntryNo) (x : List Extent) → TakesPlaces room (puts_of changes) left
-    → ((i : ℕ) → IsTrue (is_free_entry room i) → contents.versions i ≡ None) → ComesBack contents room e x
-    → ComesBack (record contents { versions = changes_versions position contents.versions changes; is_free = λ i. contents.is_free i && not (is_put_at i (puts_of changes)) }) left e x
-comes-back-taken contents position room left changes e x takes empty back =
-    comes-back-after contents _ position changes room left e x refl refl refl (λ i. refl) empty takes back
 
 and_not_or : (a b c : Bool) → (a && not (b || c)) ≡ ((a && not b) && not c)
 and_not_or a b c = grind arith

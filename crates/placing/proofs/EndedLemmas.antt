@@ -1,7 +1,7 @@
 -- Entries of versions that have ended, and what comes back to the heap.
-use Rattle.std.proofs.Common.{rules, ◌≡◌, ℕ, ◌<◌, ◌||◌, false, IsTrue, List, [], ◌∷◌, Contains, nat_eq, refl, ap, ◌∙◌}
+use Rattle.std.proofs.Common.{rules, ℕ, ◌<◌, IsTrue, List, [], ◌∷◌, Contains, nat_eq}
 use Rattle.std.proofs.lemmas.Map.Keys.{IsDistinct-head, IsDistinct-tail}
-use Rattle.std.specs.List.{AllByRecursion, IsDistinct}
+use Rattle.std.specs.List.{IsDistinct}
 use Rattle.kv_types.specs.declared.place.EntryNo.{EntryNo}
 use Rattle.extent_heap.specs.Room.{Room}
 use Rattle.model.specs.Group.{AreEnded, Contents, IsConsistent, is_ended_version, is_listed, entries_of}
@@ -9,11 +9,7 @@ use Rattle.model.proofs.DirectoryLemmas.{ended-directory}
 use Rattle.mv_keyspace.specs.Row.{numbers_of}
 use Rattle.placing.specs.Back.{ComesBack, HasOut}
 use Rattle.placing.specs.Rebuilt.{AreEndedOf}
-use Rattle.placing.proofs.MemberLemmas.{distinct_none, here, later, listed-from_member}
-
-unlisted : (n : ℕ) (entries : List EntryNo) → AllByRecursion (λ m. nat_eq n m ≡ false) (numbers_of entries) → is_listed n entries ≡ false
-unlisted n [] apart = refl
-unlisted n (entry ∷ entries) apart = ap (λ b. b || is_listed n entries) apart.0 ∙ unlisted n entries apart.1
+use Rattle.placing.proofs.MemberLemmas.{distinct_none, here, later, listed-from_member, unlisted}
 
 -- entries with distinct numbers, of which each holds a version that has ended
 pub AreEnded-from_members : (contents : Contents) (entries : List EntryNo) → IsDistinct nat_eq (numbers_of entries)

@@ -45,6 +45,10 @@ pub listed-from_member : (i : ℕ) (entries : List EntryNo) → Contains (number
 listed-from_member i [] m = absurd (no_member i m)
 listed-from_member i (entry ∷ entries) m = grind (arith, first_or_later entry.0 i (numbers_of entries) m, listed-from_member i entries)
 
+pub unlisted : (n : ℕ) (entries : List EntryNo) → AllByRecursion (λ m. nat_eq n m ≡ false) (numbers_of entries) → is_listed n entries ≡ false
+unlisted n [] apart = refl
+unlisted n (entry ∷ entries) apart = ap (λ b. b || is_listed n entries) apart.0 ∙ unlisted n entries apart.1
+
 -- ---- elements that pass a test
 
 pub member-from_any : {X : Type 0} (test : X → Bool) (xs : List X) → IsTrue (list_any test xs) → (x : X) × Contains xs x × IsTrue (test x)

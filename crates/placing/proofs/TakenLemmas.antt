@@ -164,7 +164,7 @@ pub not_put_at_free : (room : Room) (puts : List Put) (i : ℕ) → AllByRecursi
 not_put_at_free room [] i free out = refl
 not_put_at_free room (put ∷ puts) i free out = grind (arith, free.0.entry, not_put_at_free room puts i free.1 out)
 
-apart_distinct : (put : Put) (puts : List Put) → AllByRecursion (IsApartFrom put) puts → is_put_at put.entry.0 puts ≡ false
+pub apart_distinct : (put : Put) (puts : List Put) → AllByRecursion (IsApartFrom put) puts → is_put_at put.entry.0 puts ≡ false
 apart_distinct put [] apart = refl
 apart_distinct put (other ∷ puts) apart = grind (arith, apart.0.entries, apart_distinct put puts apart.1)
 

@@ -3,7 +3,7 @@ use Rattle.std.proofs.Common.{◌≡◌, ◌⊎◌, ℕ, ◌-◌, ◌≤◌, suc
 use Rattle.pmem.specs.Device.{Word, State, Fences, fences_after, is_unsure, moment}
 use Rattle.pmem.specs.Device.Fences.{Unsure, Sure}
 use Rattle.pmem.specs.Crash.{IsImage, HadImage, MayLeave, words_to_crash}
-use Rattle.pmem.specs.Floor.{MayBeLeft, LeavesPresentWords, LeavesNoMore, AreEnough, MomentsAreEnough, Chain, CallsChain}
+use Rattle.pmem.specs.Floor.{MayBeLeft, LeavesPresentWords, LeavesNoMore, MomentsAreEnough, Chain, CallsChain}
 use Rattle.pmem.specs.Runs.{LeavesOnly, Staged, StageFailed, HasCause}
 use Rattle.pmem.proofs.Leaving.{MayLeave-now, LeavesOnly-then, LeavesOnly-weaken}
 

@@ -289,12 +289,3 @@ Writes-lines words lines old new fit range are touches =
       others = touches.others;
       within = touches.within;
     }
-
--- no line was written
-pub Writes-none : (words lines : List ℕ) (old : List Call) → lines ≡ [] → Writes (is_in lines) (word_of words) old old
-Writes-none words lines old none =
-    record {
-      last = λ read word has. absurd (let h : false ≡ true = subst (λ (ls : List ℕ). has_line ls (word / 8) ≡ true) none has in cc);
-      others = λ read word e. refl;
-      within = (Touches-none (is_in lines) (word_of words) old).within;
-    }

@@ -1,5 +1,5 @@
 -- A generation begins behind lines that were put in place.
-use Rattle.std.proofs.Common.{◌≡◌, ◌⊎◌, ℕ, ◌/◌, ◌≤◌, true, false, List, [], ◌++◌, length, take, get_or, inl, inr, sym, subst, ◌∙◌, arith}
+use Rattle.std.proofs.Common.{◌≡◌, ◌⊎◌, ℕ, List, [], ◌++◌, take, get_or, inl, inr, sym, subst, ◌∙◌}
 use Rattle.std.proofs.lemmas.Bool.{cases_Bool}
 use Rattle.journal.specs.declared.shape.Shape.{Shape}
 use Rattle.journal.specs.Record.{Record}
@@ -7,7 +7,7 @@ use Rattle.journal.specs.Replay.{replayed}
 use Rattle.pmem_file.specs.declared.file_journal.FileJournal.{FileJournal}
 use Rattle.pmem_file.specs.Call.{Call}
 use Rattle.pmem_file.specs.Written.{is_in}
-use Rattle.pmem_file.specs.Journaled.{IsMadeOf, IsEarlier, HasLines, Ordered, Orders, placed, ClearsAway, Stops}
+use Rattle.pmem_file.specs.Journaled.{IsMadeOf, IsEarlier, HasLines, Orders, placed, ClearsAway, Stops}
 use Rattle.pmem_file.proofs.EarlierLemmas.{none-taken, placed-either}
 
 -- what has these lines still has them once all records are in place

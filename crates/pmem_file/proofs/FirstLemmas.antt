@@ -1,5 +1,5 @@
 -- What the first recovery of a file leaves that is cut off: the journal has not begun.
-use Rattle.std.proofs.Common.{◌≡◌, ◌⊎◌, ℕ, zero, suc, ◌+◌, ◌*◌, ◌%◌, ◌-◌, ◌<◌, ◌≤◌, Bool, true, false, ◌==◌, List, [], ◌∷◌, length, replicate, get_or, refl, inl, inr, sym, subst, ap, ◌∙◌, arith}
+use Rattle.std.proofs.Common.{◌≡◌, ◌⊎◌, ℕ, zero, suc, ◌+◌, ◌*◌, ◌%◌, ◌-◌, ◌<◌, ◌≤◌, false, ◌==◌, List, [], ◌∷◌, length, replicate, get_or, refl, inl, inr, sym, subst, ap, ◌∙◌, arith}
 use Rattle.std.proofs.lemmas.Bool.{cases_Bool, cases_lt, eqb-true}
 use Rattle.std.proofs.lemmas.Bool.Decides.{nat_tests}
 use Rattle.std.proofs.lemmas.List.{get_or_past}
@@ -11,9 +11,8 @@ use Rattle.journal.specs.Head.{head_of}
 use Rattle.journal.specs.File.{head_at, part_at, words_from, generation_in, part_in}
 use Rattle.journal.proofs.RecordLemmas.{told, none-in}
 use Rattle.pmem_file.specs.Call.{Call, IsFileImage}
-use Rattle.pmem_file.specs.Written.{MayWrite, Commits, is_among, is_in, from, word_of, blank}
+use Rattle.pmem_file.specs.Written.{MayWrite, is_among, is_in, from, word_of, blank}
 use Rattle.pmem_file.specs.Journaled.{IsUnbegun, LeavesTheFirst}
-use Rattle.pmem_file.proofs.CallsLemmas.{MayWrite-synced}
 use Rattle.pmem_file.proofs.WritesLemmas.{not-among}
 use Rattle.pmem_file.proofs.PlacesLemmas.{partly, untouched, part-behind, part-same}
 
@@ -71,12 +70,6 @@ first-read shape read un file is =
           };
       place = λ word below. same word;
     }
-
--- what is written and synced may be written
-pub commits-may : (touched : ℕ → Bool) (value : ℕ → ℕ) (old new : List Call) → Commits touched value old new → MayWrite touched value old new
-commits-may touched value old new commits =
-    subst (λ (calls : List Call). MayWrite touched value old calls) (sym commits.synced)
-    (MayWrite-synced touched value old commits.between true commits.writes.within)
 
 -- no line is written
 pub first-lines : (shape : Shape) (read words lines : List ℕ) (old new : List Call) → ((word : ℕ) → is_in lines word ≡ false)

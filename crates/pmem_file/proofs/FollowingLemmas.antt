@@ -1,6 +1,6 @@
 -- A device over a file with a journal knows through each call what a crash leaves.
-use Rattle.std.proofs.Common.{◌≡◌, ℕ, ◌*◌, ◌/◌, ◌<◌, ◌≤◌, zero, suc, Bool, true, false, ◌&&◌, ◌||◌, ◌==◌, nat_le, List, [], ◌∷◌, ◌++◌, length, take, set, get_or, refl, inl, inr, sym, subst, ap, ◌∙◌, arith, get_or-set_same, get_or-set_other}
-use Rattle.std.proofs.lemmas.Bool.{cases_Bool, cases_lt, or_cases, or_left, or_right, or_parts, and_parts, and_from, le-leb, leb-true, eqb-false, true≢false}
+use Rattle.std.proofs.Common.{◌≡◌, ℕ, ◌*◌, ◌/◌, ◌<◌, ◌≤◌, zero, suc, Bool, true, false, ◌&&◌, ◌||◌, nat_le, List, [], ◌∷◌, ◌++◌, length, take, get_or, refl, inl, inr, sym, subst, ap, ◌∙◌, arith}
+use Rattle.std.proofs.lemmas.Bool.{cases_Bool, cases_lt, or_cases, or_left, or_right, and_parts, and_from, le-leb, leb-true, true≢false}
 use Rattle.std.proofs.Math.Logic.{∥∥₁_elim}
 use Rattle.std.proofs.Math.Bool.{Bool-set}
 use Rattle.std.proofs.lemmas.List.{append-nil, get_or_past, get_or_default}
@@ -12,60 +12,18 @@ use Rattle.pmem.specs.Cell.{may_be}
 use Rattle.pmem.specs.Crash.{IsImage, HadImage}
 use Rattle.pmem.proofs.Words.{MayBe-store_word, flush_word-MayBe}
 use Rattle.pmem.proofs.Chains.{may_be-MayBe, MayBe-may_be}
-use Rattle.pmem.proofs.Staging.{same_or_other, store_at-same, store_at-other, flush_at-same, flush_at-other, newest-flush_at}
+use Rattle.pmem.proofs.Staging.{same_or_other, store_at-same, store_at-other, flush_at-same, flush_at-other}
 use Rattle.pmem_file.specs.declared.file_journal.FileJournal.{FileJournal}
 use Rattle.pmem_file.specs.declared.notes.Notes.{Notes}
-use Rattle.pmem_file.specs.Call.{Call, has_failed}
+use Rattle.pmem_file.specs.declared.logged_file.LoggedFile.{LoggedFile}
+use Rattle.pmem_file.specs.Call.{Call, calls_of, has_failed}
 use Rattle.pmem_file.specs.Line.{has_line}
 use Rattle.pmem_file.specs.Noted.{is_noted}
 use Rattle.pmem_file.specs.Written.{is_in, word_of}
-use Rattle.pmem_file.specs.Holding.{has_passed}
 use Rattle.pmem_file.specs.Journaled.{IsMadeOf, Journals, IsEarlier, HasLines, Orders, Syncs, Stops}
 use Rattle.pmem_file.specs.Following.{Copies, IsLeft, FollowsMoments, Follows, Keeps, IsBlankBehind}
-use Rattle.pmem_file.proofs.HoldingLemmas.{has_passed-push, fence_keeps, fence_leaves}
+use Rattle.pmem_file.proofs.HoldingLemmas.{fence_keeps}
 use Rattle.pmem_file.proofs.EarlierLemmas.{none-taken, earlier-appended}
-
--- ---- the copy
-
-pub Copies-read : (copy : List ℕ) (notes : Notes) → Copies copy notes (λ (word : ℕ). settled (get_or copy word 0))
-Copies-read copy notes = record { newest = λ word. refl; noted = λ word un. refl }
-
-pub Copies-stored : (copy : List ℕ) (notes : Notes) (words : ℕ → Word) (at x : ℕ) → at < length copy → Copies copy notes words
-    → Copies (set copy at x) notes (store_at at x words)
-Copies-stored copy notes words at x below copies =
-    record {
-      newest = λ word.
-          elim (same_or_other word at) [
-            | inl e ↦ rw e (get_or-set_same copy at x 0 below) ∙ sym (ap (λ (w : Word). w.newest) (store_at-same at x words word e))
-            | inr n ↦ get_or-set_other copy at word x 0 n ∙ copies.newest word ∙ sym (ap (λ (w : Word). w.newest) (store_at-other at x words word n))
-          ];
-      noted = λ word un.
-          elim (same_or_other word at) [
-            | inl e ↦
-                ap (λ (w : Word). has_passed w.older) (store_at-same at x words word e)
-                ∙ has_passed-push (words word).older (words word).newest ∙ copies.noted word un
-            | inr n ↦ ap (λ (w : Word). has_passed w.older) (store_at-other at x words word n) ∙ copies.noted word un
-          ];
-    }
-
-pub Copies-flushed : (copy : List ℕ) (notes notes' : Notes) (words : ℕ → Word) (line : ℕ)
-    → ((other : ℕ) → is_noted notes' other ≡ ((other == line) || is_noted notes other)) → Copies copy notes words
-    → Copies copy notes' (flush_at line words)
-Copies-flushed copy notes notes' words line noted copies =
-    record {
-      newest = λ word. copies.newest word ∙ sym (newest-flush_at line words word);
-      noted = λ word un.
-          let both = or_parts (word / 8 == line) (is_noted notes (word / 8)) (sym (noted (word / 8)) ∙ un) in
-          ap (λ (w : Word). has_passed w.older) (flush_at-other line words word (eqb-false (word / 8) line both.0)) ∙ copies.noted word both.1;
-    }
-
-pub Copies-fenced : (copy : List ℕ) (notes notes' : Notes) (words : ℕ → Word) → Copies copy notes words → Copies copy notes' (fenced words)
-Copies-fenced copy notes notes' words copies = record { newest = copies.newest; noted = λ word un. fence_leaves (words word).older }
-
-pub Copies-noted : (copy : List ℕ) (notes notes' : Notes) (words : ℕ → Word) → ((line : ℕ) → is_noted notes' line ≡ is_noted notes line)
-    → Copies copy notes words → Copies copy notes' words
-Copies-noted copy notes notes' words same copies =
-    record { newest = copies.newest; noted = λ word un. copies.noted word (sym (same (word / 8)) ∙ un) }
 
 -- ---- images
 
@@ -220,6 +178,19 @@ Keeps-stopped old new read calls calls' words past t copy notes fine failed same
       head = stops.head read f.image f.synced f.since f.journals;
       follows = λ fine'. absurd (true≢false (sym failed ∙ fine'));
     }
+
+-- a call that was not done leaves what is kept, whether the file had failed before it or fails by it
+pub Keeps-undone : (old new : FileJournal) (file file' : LoggedFile) (read : List ℕ) (words : ℕ → Word) (past : List (ℕ → Word)) (t : ℕ) (copy : List ℕ) (notes : Notes)
+    → (has_failed (calls_of file.calls) ≡ true → file' ≡ file) → (has_failed (calls_of file.calls) ≡ true → new ≡ old) → has_failed (calls_of file'.calls) ≡ true
+    → new.head.shape ≡ old.head.shape → Copies copy notes words → (has_failed (calls_of file.calls) ≡ false → Stops old new (calls_of file.calls) (calls_of file'.calls) copy)
+    → Keeps old read (calls_of file.calls) words past t → Keeps new read (calls_of file'.calls) words past t
+Keeps-undone old new file file' read words past t copy notes lasting same failed shape copies stops k =
+    elim (cases_Bool (has_failed (calls_of file.calls))) [
+      | inl had ↦
+          subst (λ (j : FileJournal). Keeps j read (calls_of file'.calls) words past t) (sym (same had))
+          (subst (λ (f : LoggedFile). Keeps old read (calls_of f.calls) words past t) (sym (lasting had)) k)
+      | inr fine ↦ Keeps-stopped old new read (calls_of file.calls) (calls_of file'.calls) words past t copy notes fine failed shape copies (stops fine) k
+    ]
 
 -- a sync that succeeded
 pub Keeps-synced : (old new : FileJournal) (read : List ℕ) (calls calls' : List Call) (words : ℕ → Word) (past : List (ℕ → Word)) (t : ℕ)

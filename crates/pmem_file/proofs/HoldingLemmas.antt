@@ -1,17 +1,19 @@
 -- A device over a file knows its candidates through each call.
-use Rattle.std.proofs.Common.{◌≡◌, ℕ, ◌/◌, ◌<◌, Bool, true, false, not, ◌||◌, ◌==◌, List, [], ◌∷◌, ◌++◌, filter, length, get_or, set, refl, inl, inr, sym, subst, ap, ◌∙◌, arith, get_or-set_same, get_or-set_other}
+use Rattle.std.proofs.Common.{◌≡◌, ℕ, ◌/◌, ◌<◌, true, false, not, ◌||◌, ◌==◌, List, [], ◌∷◌, filter, length, get_or, set, refl, inl, inr, sym, subst, ap, ◌∙◌, arith}
 use Rattle.std.proofs.lemmas.List.{length-set}
-use Rattle.std.proofs.lemmas.Bool.{or_cases, or_left, or_parts, or_from, not-true, not_from_false, cond-true, cond_both, cases_Bool, eqb-true, eqb-false}
+use Rattle.std.proofs.lemmas.Bool.{or_cases, or_left, or_parts, not_from_false, cond-true, cases_Bool, eqb-true}
 use Rattle.pmem.specs.Device.{Older, Word, store_word, flush_word, fence_word, store_at, flush_at, fenced, settled}
 use Rattle.pmem.specs.Cell.{may_be}
 use Rattle.pmem.proofs.Words.{MayBe-store_word, flush_word-MayBe}
 use Rattle.pmem.proofs.Chains.{may_be-MayBe, MayBe-may_be}
-use Rattle.pmem.proofs.Staging.{same_or_other, store_at-same, store_at-other, flush_at-same, flush_at-other, newest-flush_at}
+use Rattle.pmem.proofs.Staging.{same_or_other, store_at-same, store_at-other, flush_at-same, flush_at-other}
 use Rattle.pmem_file.specs.declared.notes.Notes.{Notes}
 use Rattle.pmem_file.specs.Call.{Call, may_hold, Brings}
 use Rattle.pmem_file.specs.Line.{has_line, Fixes}
 use Rattle.pmem_file.specs.Noted.{is_noted}
 use Rattle.pmem_file.specs.Holding.{has_passed, Holds}
+use Rattle.pmem_file.specs.Following.{Copies}
+use Rattle.pmem_file.proofs.CopiesLemmas.{Copies-flushed, Copies-stored, fence_leaves}
 
 -- a file that was just read holds its words
 pub Holds-read : (copy : List ℕ) (notes : Notes) (read : List ℕ) → ((word : ℕ) → word < length copy → get_or copy word 0 ≡ get_or read word 0)
@@ -24,27 +26,17 @@ Holds-read copy notes read same =
           or_left (x == get_or copy word 0) false (subst (λ (y : ℕ). (x == y) ≡ true) (sym (same word below)) may);
     }
 
-pub has_passed-push : (older : List Older) (x : ℕ) → has_passed (older ++ record { value = x; passed = false } ∷ []) ≡ has_passed older
-has_passed-push [] x = refl
-has_passed-push (o ∷ older) x = ap (λ (b : Bool). o.passed || b) (has_passed-push older x)
+copied : (copy : List ℕ) (notes : Notes) (read : List ℕ) (calls : List Call) (words : ℕ → Word) → Holds copy notes read calls words → Copies copy notes words
+copied copy notes read calls words holds = record { newest = holds.newest; noted = holds.noted }
 
 -- a store
 pub Holds-stored : (copy : List ℕ) (notes : Notes) (read : List ℕ) (calls : List Call) (words : ℕ → Word) (at x : ℕ) → at < length copy
     → Holds copy notes read calls words → Holds (set copy at x) notes read calls (store_at at x words)
 Holds-stored copy notes read calls words at x below holds =
+    let copies = Copies-stored copy notes words at x below (copied copy notes read calls words holds) in
     record {
-      newest = λ word.
-          elim (same_or_other word at) [
-            | inl e ↦ rw e (get_or-set_same copy at x 0 below) ∙ sym (ap (λ (w : Word). w.newest) (store_at-same at x words word e))
-            | inr n ↦ get_or-set_other copy at word x 0 n ∙ holds.newest word ∙ sym (ap (λ (w : Word). w.newest) (store_at-other at x words word n))
-          ];
-      noted = λ word un.
-          elim (same_or_other word at) [
-            | inl e ↦
-                ap (λ (w : Word). has_passed w.older) (store_at-same at x words word e)
-                ∙ has_passed-push (words word).older (words word).newest ∙ holds.noted word un
-            | inr n ↦ ap (λ (w : Word). has_passed w.older) (store_at-other at x words word n) ∙ holds.noted word un
-          ];
+      newest = copies.newest;
+      noted = copies.noted;
       within = λ word y below' may.
           let inside : word < length copy = omega (arith, below', length-set copy at x) in
           elim (same_or_other word at) [
@@ -60,11 +52,10 @@ pub Holds-flushed : (copy : List ℕ) (notes notes' : Notes) (read : List ℕ) (
     → ((other : ℕ) → is_noted notes' other ≡ ((other == line) || is_noted notes other))
     → Holds copy notes read calls words → Holds copy notes' read calls (flush_at line words)
 Holds-flushed copy notes notes' read calls words line noted holds =
+    let copies = Copies-flushed copy notes notes' words line noted (copied copy notes read calls words holds) in
     record {
-      newest = λ word. holds.newest word ∙ sym (newest-flush_at line words word);
-      noted = λ word un.
-          let both = or_parts (word / 8 == line) (is_noted notes (word / 8)) (sym (noted (word / 8)) ∙ un) in
-          ap (λ (w : Word). has_passed w.older) (flush_at-other line words word (eqb-false (word / 8) line both.0)) ∙ holds.noted word both.1;
+      newest = copies.newest;
+      noted = copies.noted;
       within = λ word y below may.
           elim (same_or_other (word / 8) line) [
             | inl e ↦
@@ -79,13 +70,6 @@ fence_keeps [] none = refl
 fence_keeps (o ∷ older) none =
     let both = or_parts o.passed (has_passed older) none in
     cond-true (not o.passed) _ _ (not_from_false o.passed both.0) ∙ ap (λ (os : List Older). o ∷ os) (fence_keeps older both.1)
-
--- after a fence no candidate is passed
-pub fence_leaves : (older : List Older) → has_passed (filter (λ o. not o.passed) older) ≡ false
-fence_leaves [] = refl
-fence_leaves (o ∷ older) =
-    cond_both (not o.passed) (o ∷ filter (λ o. not o.passed) older) (filter (λ o. not o.passed) older) (λ (os : List Older). has_passed os ≡ false)
-    (λ kept. or_from o.passed _ (not-true o.passed kept) (fence_leaves older)) (λ _. fence_leaves older)
 
 -- a fence that succeeded, after which no line is noted
 pub Holds-fenced : (copy : List ℕ) (notes notes' : Notes) (lines : List ℕ) (read : List ℕ) (calls calls' : List Call) (words : ℕ → Word)

@@ -3,6 +3,7 @@ pub mod CallsLemmas
 pub mod DiskLemmas
 pub mod EarlierLemmas
 pub mod FollowingLemmas
+pub mod CopiesLemmas
 pub mod HoldingLemmas
 pub mod JournalLemmas
 pub mod LinesLemmas

@@ -59,12 +59,6 @@ made-of shape all tail words records size is count journal made =
       behind = λ word beyond. get_or_past words word 0 (omega (arith, count, beyond));
     }
 
--- a shape is told by the lines of the image and of the file
-pub same-shape : (a b : Shape) → a.lines ≡ b.lines → lines_of_file a ≡ lines_of_file b → a ≡ b
-same-shape a b lines whole =
-    let part : a.part ≡ b.part = omega (arith, lines, whole) in
-    ap (λ (n : ℕ). record { lines = n; part = a.part }) lines ∙ ap (λ (n : ℕ). record { lines = b.lines; part = n }) part
-
 pub made-at : (lines : ℕ) (shape shape' : Shape) (all read : List ℕ) (image : ℕ → ℕ) → lines ≡ shape.lines → shape' ≡ shape → read ≡ all
     → IsMadeOf shape (word_of all) image → IsMade lines (Some shape') (slice_index read) image
 made-at lines shape shape' all read image count same are m =

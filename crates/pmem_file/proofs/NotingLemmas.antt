@@ -1,6 +1,6 @@
 -- The lines of the records of a journal, noted one record after another.
-use Rattle.std.proofs.Common.{◌≡◌, ℕ, Bool, true, false, ◌||◌, List, [], ◌∷◌, refl, sym, subst, ap, ◌∙◌}
-use Rattle.std.proofs.Math.Bool.{or-false}
+use Rattle.std.proofs.Common.{◌≡◌, ℕ, Bool, true, false, ◌||◌, List, [], ◌∷◌, sym, subst, ap, ◌∙◌}
+use Rattle.std.proofs.Math.Bool.{or-false, or_assoc}
 use Rattle.std.proofs.lemmas.Bool.{true≢false}
 use Rattle.journal.specs.Record.{Record}
 use Rattle.journal.specs.Journal.{IsJournal, passes, record_in, behind}
@@ -13,10 +13,6 @@ abbrev pub IsNoting : ℕ → List ℕ → List ℕ → (ℕ → Bool) → (ℕ 
 IsNoting lines part rest first now =
     (all : List Record) → IsJournal lines part all
     → (more : List Record) × IsJournal lines rest more × ((line : ℕ) → (now line || is_recorded more line) ≡ (first line || is_recorded all line))
-
-or-regrouped : (a b c : Bool) → ((a || b) || c) ≡ (a || (b || c))
-or-regrouped true b c = refl
-or-regrouped false b c = refl
 
 pub noting-next : (lines : ℕ) (part rest later numbers : List ℕ) (first now next : ℕ → Bool) → passes lines rest ≡ true → numbers ≡ (record_in rest).numbers
     → later ≡ behind rest → ((line : ℕ) → next line ≡ (now line || has_line numbers line)) → IsNoting lines part rest first now
@@ -35,7 +31,7 @@ noting-next lines part rest later numbers first now next whole are is noted noti
           ap (λ (b : Bool). b || is_recorded more line)
           (noted line ∙ ap (λ (b : Bool). now line || b)
           (sym (same-lines numbers line) ∙ ap (λ (ns : List ℕ). same_in ns line) (are ∙ sym (ap (λ (x : Record). x.numbers) some.1))))
-          ∙ or-regrouped (now line) (same_in r.numbers line) (is_recorded more line) ∙ same line,
+          ∙ or_assoc (now line) (same_in r.numbers line) (is_recorded more line) ∙ same line,
     )
 
 pub noted-all : (lines : ℕ) (part rest : List ℕ) (first now : ℕ → Bool) → passes lines rest ≡ false → IsNoting lines part rest first now

@@ -1,7 +1,7 @@
 -- Words of which the last are zeros that are not kept.
 use Rattle.std.proofs.Common.{◌≡◌, ℕ, zero, suc, ◌+◌, ◌-◌, ◌<◌, ◌≤◌, inl, inr, List, [], ◌∷◌, ◌++◌, length, replicate, take, get_or, refl, sym, ap, ◌∙◌, arith, append_assoc, length-append, Result, Ok, Err, OnOk}
 use Rattle.std.proofs.lemmas.Bool.{cases_lt}
-use Rattle.std.proofs.lemmas.List.{append-nil, replicate-append-replicate, replicate_more, length-replicate, length-take, get_or-take, get_or_past, ext_get_or}
+use Rattle.std.proofs.lemmas.List.{replicate-append-replicate, replicate_more, length-replicate, length-take, get_or-take, get_or_past, ext_get_or}
 
 -- these words, and zeros behind them, so many in all
 abbrev pub whole : List ℕ → ℕ → List ℕ
@@ -28,10 +28,6 @@ whole-longer kept count more fit =
     ∙ ap (λ xs. kept ++ xs) (sym (replicate-append-replicate a more 0))
     ∙ sym (append_assoc kept (replicate a 0) (replicate more 0))
 
--- all are kept
-pub whole-kept : (kept : List ℕ) → whole kept (length kept) ≡ kept
-whole-kept kept = ap (λ n. kept ++ replicate n 0) (let none : length kept - length kept ≡ 0 = omega arith in none) ∙ append-nil kept
-
 -- ---- zeros in front
 
 pub zeros-more : (n : ℕ) (ws : List ℕ) → replicate n 0 ++ 0 ∷ ws ≡ replicate (n + 1) 0 ++ ws
@@ -41,7 +37,7 @@ get_or-behind : (n w : ℕ) (ws : List ℕ) → get_or (replicate n 0 ++ w ∷ w
 get_or-behind zero w ws = refl
 get_or-behind (suc n) w ws = get_or-behind n w ws
 
-get_or-zeros : (m k : ℕ) → ◌≡◌ {A = ℕ} (get_or (replicate m 0) k 0) 0
+pub get_or-zeros : (m k : ℕ) → ◌≡◌ {A = ℕ} (get_or (replicate m 0) k 0) 0
 get_or-zeros zero k = refl
 get_or-zeros (suc m) zero = refl
 get_or-zeros (suc m) (suc k) = get_or-zeros m k

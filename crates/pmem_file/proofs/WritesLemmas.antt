@@ -1,13 +1,14 @@
 -- What writes to a file bring to it.
 use Rattle.std.proofs.Common.{◌≡◌, ◌⊎◌, ℕ, zero, suc, ◌+◌, ◌*◌, ◌/◌, ◌-◌, ◌^◌, ◌<◌, ◌≤◌, Bool, true, false, ◌&&◌, ◌==◌, nat_le, nat_lt, List, ◌∷◌, ◌++◌, length, take, drop, replicate, get_or, refl, inl, inr, sym, subst, ap, ◌∙◌, arith}
 use Rattle.std.proofs.lemmas.Bool.{or_cases, or_left, or_right, and_parts, and_from, cond-true, cond-false, leb-true, ltb-true, le-leb, lt-ltb, cases_lt, false_from_ne_true, true≢false}
-use Rattle.std.proofs.lemmas.List.{get_or-drop, get_or-take, length-take, length-replicate, get_or-replicate, get_or_past}
+use Rattle.std.proofs.lemmas.List.{get_or-drop, get_or-take, length-take, length-replicate}
 use Rattle.std.proofs.Math.Bool.{or-false}
 use Rattle.std.specs.Int.{w64, to_le_bytes}
 use Rattle.pmem_file.specs.Byte.{bytes_of, words_in}
 use Rattle.pmem_file.specs.Call.{Call, Wrote, has_failed, reaches, brought, written, may_hold}
 use Rattle.pmem_file.specs.Written.{MayWrite, Writes, is_among, from, blank}
 use Rattle.pmem_file.proofs.BytesLemmas.{words_in-bytes_of}
+use Rattle.pmem_file.proofs.WordsLemmas.{get_or-zeros}
 
 -- it wrote nothing but these values to these words
 pub record Touches (touched : ℕ → Bool) (value : ℕ → ℕ) (old new : List Call) : Type 0 where
@@ -189,15 +190,8 @@ bytes-zero (suc n) =
 pub zeros-are : (bytes : List ℕ) (n : ℕ) → bytes ≡ replicate (8 * n) 0 → bytes ≡ bytes_of (replicate n 0)
 zeros-are bytes n is = is ∙ sym (bytes-zero n)
 
-pub zeros-at : (n k : ℕ) → ◌≡◌ {A = ℕ} (get_or (replicate n 0) k 0) 0
-zeros-at n k =
-    elim (cases_lt k n) [
-      | inl inside ↦ get_or-replicate n k 0 0 inside
-      | inr outside ↦ get_or_past (replicate n 0) k 0 (omega (arith, outside, length-replicate {A = ℕ} n 0))
-    ]
-
 pub zeros-fit : (n : ℕ) → Fit (replicate n 0)
-zeros-fit n k = rw (zeros-at n k) (omega arith)
+zeros-fit n k = rw (get_or-zeros n k) (omega arith)
 
 pub zeros-block : (first count at n : ℕ) → at + n ≤ first + count → IsBlock first count blank at (replicate n 0)
-zeros-block first count at n room = (omega (arith, room, length-replicate {A = ℕ} n 0), λ word e. zeros-at n (word - at))
+zeros-block first count at n room = (omega (arith, room, length-replicate {A = ℕ} n 0), λ word e. get_or-zeros n (word - at))

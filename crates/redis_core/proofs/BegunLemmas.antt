@@ -10,18 +10,14 @@ use Rattle.model.specs.declared.group.PlacedChange.TheVariants as placed
 use Rattle.model.specs.Image.{Version}
 use Rattle.model.specs.Group.{AreAllApart, IsApartFrom, Versions, change_of, change_versions, changes_versions, ended_by, ended_where_begun, ends_record, is_put_at, part_versions, parts_versions, put_of, puts_of_part, version_of_put}
 use Rattle.model.proofs.GroupsLemmas.{AreAllApart-prefix, AreAllApart-rest, is_put_at-append}
-use Rattle.placing.proofs.TakenLemmas.{All-append, All-both, All-rest}
+use Rattle.placing.proofs.TakenLemmas.{All-append, All-both, All-rest, apart_distinct}
 
 -- ---- puts that are apart
-
-not_before : (put : Put) (puts : List Put) → AllByRecursion (IsApartFrom put) puts → is_put_at put.entry.0 puts ≡ false
-not_before put [] apart = refl
-not_before put (other ∷ puts) apart = ap (λ b. b || is_put_at put.entry.0 puts) (ne_eqb put.entry.0 other.entry.0 apart.0.entries) ∙ not_before put puts apart.1
 
 -- no later put is at the entry of an earlier one
 none_later : (xs ys : List Put) → AreAllApart (xs ++ ys) → AllByRecursion (λ put. is_put_at put.entry.0 ys ≡ false) xs
 none_later [] ys apart = tt
-none_later (x ∷ xs) ys apart = (not_before x ys (All-rest (IsApartFrom x) xs ys apart.0), none_later xs ys apart.1)
+none_later (x ∷ xs) ys apart = (apart_distinct x ys (All-rest (IsApartFrom x) xs ys apart.0), none_later xs ys apart.1)
 
 nowhere : (ys : List Put) → AllByRecursion (λ put. is_put_at put.entry.0 [] ≡ false) ys
 nowhere [] = tt

@@ -12,10 +12,7 @@ use Rattle.mv_keyspace.specs.Versions.{Versions, shown}
 use Rattle.redis_core.specs.declared.copying.Copying.{Copying}
 use Rattle.redis_core.specs.Copying.{CopyOf, IsBefore, IsNextPart, IsPinned, copy_in, last_of, next_part, pins_of}
 use Rattle.redis_core.specs.Stored.{last_after}
-
--- the first of a list is in it
-first : (pin : ℕ) (pins : List ℕ) → Contains (pin ∷ pins) pin
-first pin pins = (0, omega arith, refl)
+use Rattle.mv_keyspace.proofs.DistinctLemmas.{here}
 
 pub copy-kept : (copying : Option Copying) (pins : List ℕ) (table table' : Table) (past past' : Versions) (position : ℕ) → pins ≡ pins_of copying → IsPinned copying
     → ((pin : ℕ) → Contains pins pin → pin < position → shown pin table' past' ≡ shown pin table past)
@@ -23,7 +20,7 @@ pub copy-kept : (copying : Option Copying) (pins : List ℕ) (table table' : Tab
 copy-kept None pins table table' past past' position are pinned same before = refl
 copy-kept (Some copying) pins table table' past past' position are pinned same before =
     let pin = copying.pin.position in
-    let held : Contains pins pin = subst (λ (all : List ℕ). Contains all pin) (sym are) (first pin []) in
+    let held : Contains pins pin = subst (λ (all : List ℕ). Contains all pin) (sym are) (here pin []) in
     ap (λ (rows : Table). Some (record { position = copying.position; rows = rows; after = copying.after; parts = copying.parts })) (same pin held (omega (arith, pinned, before)))
 
 pub last-made : (changes : List Change) (last position now : ℕ) → length changes ≢ 0 → now ≡ max last position → now ≡ last_after last position changes

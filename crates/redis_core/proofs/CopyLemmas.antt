@@ -1,44 +1,34 @@
 -- The parts of a copy, one behind another, are all of it.
-use Rattle.std.proofs.Common.{◌≡◌, ◌≢◌, ℕ, zero, suc, ◌-◌, ◌≤◌, inl, inr, Bool, true, false, cond, not, ◌&&◌, List, [], ◌∷◌, ◌++◌, length, Option, Some, None, IsTrue, nat_le, refl, sym, ap, ap₂, subst, ◌∙◌, append_assoc, leb-true, arith}
+use Rattle.std.proofs.Common.{◌≡◌, ◌≢◌, ℕ, zero, suc, ◌-◌, ◌≤◌, inl, inr, Bool, true, false, cond, not, List, [], ◌∷◌, ◌++◌, length, Option, Some, None, IsTrue, nat_le, refl, sym, ap, ap₂, subst, ◌∙◌, append_assoc, arith}
 use Rattle.std.proofs.lemmas.Bool.{and_parts}
 use Rattle.std.specs.List.{AllByRecursion, flat_map}
 use Rattle.std.specs.declared.cmp.Ordering.{Ordering}
-use Rattle.std.specs.Ordering.{is_eq, is_le, is_lt, ordering_reverse}
+use Rattle.std.specs.Ordering.{is_le, is_lt}
 use Rattle.std.specs.FinMap.Entries.{below_all, is_sorted}
 use Rattle.kv_types.specs.declared.record_id.RecordId.{RecordId}
 use Rattle.kv_types.specs.Keyspace.{record_cmp}
 use Rattle.kv_types.specs.Order.{record_cmp_total}
-use Rattle.kv_types.proofs.OrderLemmas.{record_itself}
 use Rattle.cmd_core.specs.Record.{is_up_to}
 use Rattle.cmd_core.proofs.OrderedLemmas.{earlier-is_up_to}
 use Rattle.mv_keyspace.specs.Paging.{front, page, put_size, rows_after, size_of}
 use Rattle.mv_keyspace.specs.Table.{Cell, Table}
 use Rattle.redis_core.specs.Copying.{ArePartsOf, CopyOf, IsWithin, after_part, last_of, next_part, rest_of}
-
-abbrev IsSorted : Table → Type 0
-IsSorted table = IsTrue (is_sorted record_cmp table)
+use Rattle.mv_keyspace.proofs.TableMembers.{IsSortedTable}
+use Rattle.mv_keyspace.proofs.PagingLemmas.{not_le, up_to-itself, below-front}
+use Rattle.mv_keyspace.proofs.PageSizes.{size-front}
 
 abbrev IsAbove : RecordId → Table → Type 0
 IsAbove id table = IsTrue (below_all record_cmp id table)
 
 -- ---- records in order
 
-above_not : (o p : Ordering) → o ≡ ordering_reverse p → is_lt p ≡ true → is_le o ≡ false
-above_not o p e less = grind arith
-
 less_up_to : (o : Ordering) → is_lt o ≡ true → is_le o ≡ true
 less_up_to o less = grind arith
 
-equal_up_to : (id : RecordId) → is_le (record_cmp id id) ≡ true
-equal_up_to id = by (record_cmp id id) (record_itself id)
-  where
-    by : (o : Ordering) → is_eq o ≡ true → is_le o ≡ true
-    by o e = grind arith
-
-sorted-head : (row : RecordId × Cell) (table : Table) → IsSorted (row ∷ table) → IsAbove row.0 table
+sorted-head : (row : RecordId × Cell) (table : Table) → IsSortedTable (row ∷ table) → IsAbove row.0 table
 sorted-head row table h = (and_parts (below_all record_cmp row.0 table) (is_sorted record_cmp table) h).0
 
-sorted-tail : (row : RecordId × Cell) (table : Table) → IsSorted (row ∷ table) → IsSorted table
+sorted-tail : (row : RecordId × Cell) (table : Table) → IsSortedTable (row ∷ table) → IsSortedTable table
 sorted-tail row table h = (and_parts (below_all record_cmp row.0 table) (is_sorted record_cmp table) h).1
 
 above-head : (id : RecordId) (row : RecordId × Cell) (table : Table) → IsAbove id (row ∷ table) → is_lt (record_cmp id row.0) ≡ true
@@ -46,11 +36,6 @@ above-head id row table h = (and_parts (is_lt (record_cmp id row.0)) (below_all 
 
 above-tail : (id : RecordId) (row : RecordId × Cell) (table : Table) → IsAbove id (row ∷ table) → IsAbove id table
 above-tail id row table h = (and_parts (is_lt (record_cmp id row.0)) (below_all record_cmp id table) h).1
-
-above-first : (id : RecordId) (rows more : Table) → IsAbove id (rows ++ more) → IsAbove id rows
-above-first id [] more h = refl
-above-first id (row ∷ rows) more h =
-    ap₂ (λ (a b : Bool). a && b) (above-head id row (rows ++ more) h) (above-first id rows more (above-tail id row (rows ++ more) h))
 
 -- ---- the rows behind a record
 
@@ -68,7 +53,7 @@ behind id row table up = ap (λ b. cond (not b) (row ∷ rows_after (Some id) ta
 all-behind : (id : RecordId) (table : Table) → IsAbove id table → rows_after (Some id) table ≡ table
 all-behind id [] h = refl
 all-behind id (row ∷ table) h =
-    behind id row table (above_not (record_cmp row.0 id) (record_cmp id row.0) (record_cmp_total.antisymm row.0 id) (above-head id row table h))
+    behind id row table (not_le (record_cmp row.0 id) (record_cmp id row.0) (record_cmp_total.antisymm row.0 id) (above-head id row table h))
     ∙ ap (λ (rows : Table). row ∷ rows) (all-behind id table (above-tail id row table h))
 
 -- a record below rows is up to the last of them
@@ -80,16 +65,16 @@ last-above id before [] last up h e = subst (λ (other : RecordId). is_le (recor
 last-above id before (row ∷ rows) last up h e = last-above id row.0 rows last (less_up_to (record_cmp id row.0) (above-head id row rows h)) (above-tail id row rows h) e
 
 -- behind the last of the first rows are the others
-others-behind : (row : RecordId × Cell) (rows more : Table) (last : RecordId) → IsSorted (row ∷ (rows ++ more)) → last_of (Some row.0) rows ≡ Some last
+others-behind : (row : RecordId × Cell) (rows more : Table) (last : RecordId) → IsSortedTable (row ∷ (rows ++ more)) → last_of (Some row.0) rows ≡ Some last
     → rows_after (Some last) (row ∷ (rows ++ more)) ≡ more
 others-behind row [] more last sorted e =
-    passed last row more (last-above row.0 row.0 [] last (equal_up_to row.0) refl e)
+    passed last row more (last-above row.0 row.0 [] last (up_to-itself row.0) refl e)
     ∙ subst (λ (other : Option RecordId). rows_after other more ≡ more) e (all-behind row.0 more (sorted-head row more sorted))
 others-behind row (next ∷ rows) more last sorted e =
-    passed last row ((next ∷ rows) ++ more) (last-above row.0 row.0 (next ∷ rows) last (equal_up_to row.0) (above-first row.0 (next ∷ rows) more (sorted-head row ((next ∷ rows) ++ more) sorted)) e)
+    passed last row ((next ∷ rows) ++ more) (last-above row.0 row.0 (next ∷ rows) last (up_to-itself row.0) (below-front row.0 (next ∷ rows) more (sorted-head row ((next ∷ rows) ++ more) sorted)) e)
     ∙ others-behind next rows more last (sorted-tail row ((next ∷ rows) ++ more) sorted) e
 
-pub behind-first : (rows more : Table) (last : RecordId) → IsSorted (rows ++ more) → last_of None rows ≡ Some last → rows_after (Some last) (rows ++ more) ≡ more
+pub behind-first : (rows more : Table) (last : RecordId) → IsSortedTable (rows ++ more) → last_of None rows ≡ Some last → rows_after (Some last) (rows ++ more) ≡ more
 behind-first [] more last sorted e = cc
 behind-first (row ∷ rows) more last sorted e = others-behind row rows more last sorted e
 
@@ -104,7 +89,7 @@ later-behind id row (next ∷ table) up h =
     by true e = absurd (cc (up, earlier-is_up_to id row.0 next.0 (above-head row.0 next table h) e))
 
 -- the rows behind a record are the end of the table
-pub end-behind : (after : Option RecordId) (table : Table) → IsSorted table → (rows : Table) × (table ≡ rows ++ rows_after after table)
+pub end-behind : (after : Option RecordId) (table : Table) → IsSortedTable table → (rows : Table) × (table ≡ rows ++ rows_after after table)
 end-behind None table sorted = ([], sym (all-rows table))
 end-behind (Some id) [] sorted = ([], refl)
 end-behind (Some id) (row ∷ table) sorted = by (is_up_to id row.0) refl (end-behind (Some id) table (sorted-tail row table sorted))
@@ -123,14 +108,6 @@ front-first room (row ∷ rows) = by (nat_le (put_size row) room) refl (front-fi
     by : (b : Bool) → nat_le (put_size row) room ≡ b → (more : Table) × (rows ≡ front (room - put_size row) rows ++ more) → (more : Table) × (row ∷ rows ≡ cond (nat_le (put_size row) room) (row ∷ front (room - put_size row) rows) [] ++ more)
     by true e rest = (rest.0, rw e (ap (λ (all : Table). row ∷ all) rest.1))
     by false e rest = (row ∷ rows, rw e refl)
-
-front-size : (room : ℕ) (rows : Table) → size_of (front room rows) ≤ room
-front-size room [] = omega arith
-front-size room (row ∷ rows) = by (nat_le (put_size row) room) refl (front-size (room - put_size row) rows)
-  where
-    by : (b : Bool) → nat_le (put_size row) room ≡ b → size_of (front (room - put_size row) rows) ≤ room - put_size row → size_of (cond (nat_le (put_size row) room) (row ∷ front (room - put_size row) rows) []) ≤ room
-    by true e rest = rw e (omega (arith, leb-true (put_size row) room e, rest))
-    by false e rest = rw e (omega arith)
 
 pub page-first : (bytes : ℕ) (rows : Table) → (more : Table) × (rows ≡ page bytes rows ++ more)
 page-first bytes [] = ([], refl)
@@ -154,7 +131,7 @@ page-within bytes [] some = absurd (some refl)
 page-within bytes (row ∷ rows) some = by (nat_le (put_size row) bytes) refl
   where
     by : (b : Bool) → nat_le (put_size row) bytes ≡ b → IsWithin bytes (cond (nat_le (put_size row) bytes) (front bytes (row ∷ rows)) (row ∷ []))
-    by true e = inl (subst (λ b. size_of (cond b (front bytes (row ∷ rows)) (row ∷ [])) ≤ bytes) (sym e) (front-size bytes (row ∷ rows)))
+    by true e = inl (subst (λ b. size_of (cond b (front bytes (row ∷ rows)) (row ∷ [])) ≤ bytes) (sym e) (size-front bytes (row ∷ rows)))
     by false e = inr (ap (λ b. length (cond b (front bytes (row ∷ rows)) (row ∷ []))) e)
 
 -- ---- one part
@@ -168,7 +145,7 @@ last-some before [] = (before, refl)
 last-some before (row ∷ rows) = last-some row.0 rows
 
 -- what is still to be given is the next part and what is still to be given after it
-pub rest-part : (bytes : ℕ) (copy : CopyOf) → IsSorted copy.rows → rest_of copy ≡ next_part bytes copy ++ rest_of (after_part bytes copy)
+pub rest-part : (bytes : ℕ) (copy : CopyOf) → IsSortedTable copy.rows → rest_of copy ≡ next_part bytes copy ++ rest_of (after_part bytes copy)
 rest-part bytes copy sorted = by (rest_of copy) refl
   where
     by : (rest : Table) → rest_of copy ≡ rest → rest_of copy ≡ next_part bytes copy ++ rest_of (after_part bytes copy)
@@ -186,12 +163,12 @@ rest-part bytes copy sorted = by (rest_of copy) refl
         let last_is : last_of copy.after part ≡ Some last.0 = ap (last_of copy.after) part_is ∙ last.1 in
         let last_of_all : last_of None (end.0 ++ part) ≡ Some last.0 = last-append None end.0 part ∙ ap (last_of (last_of None end.0)) part_is ∙ last.1 in
         let others : rows_after (last_of copy.after part) copy.rows ≡ first.0 =
-        ap₂ rows_after last_is whole ∙ behind-first (end.0 ++ part) first.0 last.0 (subst IsSorted whole sorted) last_of_all in
+        ap₂ rows_after last_is whole ∙ behind-first (end.0 ++ part) first.0 last.0 (subst IsSortedTable whole sorted) last_of_all in
         first.1 ∙ ap (λ (more : Table). part ++ more) (sym others)
 
 -- ---- all parts
 
-pub parts-whole : (bytes : ℕ) (copy : CopyOf) (parts : List Table) → IsSorted copy.rows → ArePartsOf bytes copy parts → flat_map (λ part. part) parts ≡ rest_of copy
+pub parts-whole : (bytes : ℕ) (copy : CopyOf) (parts : List Table) → IsSortedTable copy.rows → ArePartsOf bytes copy parts → flat_map (λ part. part) parts ≡ rest_of copy
 parts-whole bytes copy [] sorted are = sym are
 parts-whole bytes copy (part ∷ parts) sorted are =
     ap₂ (λ (a b : Table). a ++ b) are.1 (parts-whole bytes (after_part bytes copy) parts sorted are.2) ∙ sym (rest-part bytes copy sorted)
@@ -208,7 +185,7 @@ parts-same bytes copy (part ∷ parts) [] are are' = absurd (are.0 are')
 parts-same bytes copy (part ∷ parts) (other ∷ others) are are' =
     ap₂ (λ (x : Table) (xs : List Table). x ∷ xs) (are.1 ∙ sym are'.1) (parts-same bytes (after_part bytes copy) parts others are.2 are'.2)
 
-ends-within : (n bytes : ℕ) (copy : CopyOf) → IsSorted copy.rows → length (rest_of copy) ≤ n → (parts : List Table) × ArePartsOf bytes copy parts
+ends-within : (n bytes : ℕ) (copy : CopyOf) → IsSortedTable copy.rows → length (rest_of copy) ≤ n → (parts : List Table) × ArePartsOf bytes copy parts
 ends-within zero bytes copy sorted short = by (rest_of copy) refl
   where
     by : (rest : Table) → rest_of copy ≡ rest → (parts : List Table) × ArePartsOf bytes copy parts
@@ -234,5 +211,5 @@ ends-within (suc n) bytes copy sorted short = by (rest_of copy) refl (ends-withi
         let next = others (fewer (next_part bytes copy) (rest_of (after_part bytes copy)) first.0 row (ap (page bytes) e ∙ first.1) (rest-part bytes copy sorted)) in
         (next_part bytes copy ∷ next.0, (λ none. some row rows (sym e ∙ none), refl, next.1))
 
-pub parts-end : (bytes : ℕ) (copy : CopyOf) → IsSorted copy.rows → (parts : List Table) × ArePartsOf bytes copy parts
+pub parts-end : (bytes : ℕ) (copy : CopyOf) → IsSortedTable copy.rows → (parts : List Table) × ArePartsOf bytes copy parts
 parts-end bytes copy sorted = ends-within (length (rest_of copy)) bytes copy sorted (omega arith)

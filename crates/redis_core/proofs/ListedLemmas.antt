@@ -1,5 +1,5 @@
 -- What parts ended is behind what was listed, and the list has entries of ended versions alone, each once.
-use Rattle.std.proofs.Common.{◌≡◌, ℕ, ◌<◌, ◌≤◌, inl, inr, Bool, true, false, not, ◌||◌, IsTrue, List, [], ◌∷◌, ◌++◌, Option, None, Some, Contains, nat_eq, refl, sym, ap, ap₂, subst, ◌∙◌, arith, append_assoc, append-nil, eq-eqb, eqb-true, ne_eqb}
+use Rattle.std.proofs.Common.{◌≡◌, ℕ, ◌<◌, ◌≤◌, inl, inr, Bool, true, false, not, ◌||◌, IsTrue, List, [], ◌∷◌, ◌++◌, Option, None, Some, nat_eq, refl, sym, ap, ap₂, subst, ◌∙◌, arith, append_assoc, append-nil, eq-eqb, eqb-true, ne_eqb}
 use Rattle.std.proofs.lemmas.Bool.{cases_lt, false_from_ne_true, or_left, or_right}
 use Rattle.std.proofs.lemmas.Map.Keys.{IsDistinct-head, IsDistinct-tail}
 use Rattle.std.specs.List.{AllByRecursion, IsDistinct}
@@ -11,25 +11,11 @@ use Rattle.model.specs.Group.{AreAllApart, AreEnded, AreParts, Contents, IsPlace
 use Rattle.model.proofs.DirectoryLemmas.{entries_same}
 use Rattle.model.proofs.GroupsLemmas.{AreAllApart-rest, changes_versions-none}
 use Rattle.mv_keyspace.specs.Row.{numbers_of}
-use Rattle.mv_keyspace.proofs.DistinctLemmas.{here, later}
 use Rattle.placing.proofs.BackLemmas.{listed-append}
 use Rattle.placing.proofs.TakenLemmas.{All-both, All-prefix, All-rest}
 use Rattle.redis_core.specs.Sequencing.{NamesOnce, ended_by_parts, puts_of_parts}
 use Rattle.redis_core.proofs.BegunLemmas.{none_earlier, still-changes, still-same}
-
--- ---- entries in a list
-
-contains_listed : (i : ℕ) (entries : List EntryNo) → IsTrue (is_listed i entries) → Contains (numbers_of entries) i
-contains_listed i [] listed = cc
-contains_listed i (x ∷ entries) listed = by (nat_eq i x.0) refl listed (contains_listed i entries)
-  where
-    by : (b : Bool) → nat_eq i x.0 ≡ b → IsTrue (b || is_listed i entries) → (IsTrue (is_listed i entries) → Contains (numbers_of entries) i) → Contains (numbers_of (x ∷ entries)) i
-    by true e t others = subst (λ n. Contains (numbers_of (x ∷ entries)) n) (sym (eqb-true i x.0 e)) (here x.0 (numbers_of entries))
-    by false e t others = later x.0 i (numbers_of entries) (others t)
-
-unlisted : (n : ℕ) (entries : List EntryNo) → AllByRecursion (λ m. nat_eq n m ≡ false) (numbers_of entries) → is_listed n entries ≡ false
-unlisted n [] apart = refl
-unlisted n (x ∷ entries) apart = ap (λ b. b || is_listed n entries) apart.0 ∙ unlisted n entries apart.1
+use Rattle.placing.proofs.MemberLemmas.{member-from_listed, unlisted}
 
 -- ---- entries that have no version
 
@@ -115,7 +101,7 @@ module _ (contents : Contents) (part : Part) (bounded : IsBounded contents) (nam
           subst (λ (now : Option Version). IsTrue (is_ended_version now)) (sym still.is) (still.ended t)
 
   not_named : (i : ℕ) → IsTrue (is_ended_version (contents.versions i)) → is_listed i part.ended.items ≡ false
-  not_named i ended = false_from_ne_true (is_listed i part.ended.items) (λ listed. by (contents.versions i) refl ended ((names i).0 (contains_listed i part.ended.items listed)).0)
+  not_named i ended = false_from_ne_true (is_listed i part.ended.items) (λ listed. by (contents.versions i) refl ended ((names i).0 (member-from_listed i part.ended.items listed)).0)
     where
       by : (o : Option Version) → contents.versions i ≡ o → IsTrue (is_ended_version o) → IsTrue (is_live_version (contents.versions i) || is_put_at i puts) → ⊥
       by None e t may = cc
@@ -131,7 +117,7 @@ module _ (contents : Contents) (part : Part) (bounded : IsBounded contents) (nam
 
   named_ended : (i : ℕ) → IsTrue (is_listed i part.ended.items) → (i < entries_of contents) × IsTrue (is_ended_version (part_versions contents.versions part i))
   named_ended i listed =
-      let ended = ((names i).0 (contains_listed i part.ended.items listed)).1 in
+      let ended = ((names i).0 (member-from_listed i part.ended.items listed)).1 in
       elim (cases_lt i (entries_of contents)) [
         | inl low ↦ (low, ended)
         | inr high ↦ absurd (not_ended_none (part_versions contents.versions part i) (bounded_after i high) ended)

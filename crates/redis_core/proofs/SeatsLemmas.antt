@@ -1,5 +1,5 @@
 -- The sessions by seat, when sessions are opened, moved, closed and marked.
-use Rattle.std.proofs.Common.{◌≡◌, subst, subst₂, get_or, ◌≢◌, ℕ, zero, suc, ◌<◌, Bool, true, false, List, ◌∷◌, length, replicate, set, nat_eq, Option, Some, None, is_some, IsSome, refl, sym, ap, ◌∙◌, length-set, get_or-set_same, get_or-set_other, eqb-true, eq-eqb}
+use Rattle.std.proofs.Common.{◌≡◌, subst, subst₂, get_or, ◌≢◌, ℕ, zero, suc, ◌<◌, Bool, true, false, List, ◌∷◌, length, replicate, set, nat_eq, Option, Some, None, is_some, IsSome, refl, sym, ap, ◌∙◌, length-set, get_or-set_same, get_or-set_other, eqb-true}
 use Rattle.std.specs.Option.{option_map}
 use Rattle.std.proofs.Math.ListN.{get_or-map}
 use Rattle.std.proofs.lemmas.List.{get_or_read}
@@ -10,6 +10,7 @@ use Rattle.multi_watch.specs.Admission.{Step}
 use Rattle.multi_watch.specs.Session.{Session, idle_session, is_watched, modified}
 use Rattle.multi_watch.specs.Sessions.{Sessions, slot, session_of, session_at, Moves, Steps}
 use Rattle.redis_core.specs.Seats.{session_numbered, by_seat, number_at, IsHeld, AreSeats}
+use Rattle.placing.proofs.MemberLemmas.{differ}
 
 abbrev Numbers : Type 0
 Numbers = List (Option SessionNo)
@@ -22,9 +23,6 @@ some_is_not_none o is none = let both : false ≡ true = sym (ap is_some none) �
 
 not_some : (number : SessionNo) → ◌≢◌ {A = Option SessionNo} None (Some number)
 not_some number e = let both : false ≡ true = ap is_some e in cc
-
-apart_from : (a b : ℕ) → nat_eq a b ≡ false → a ≢ b
-apart_from a b is e = let same : nat_eq a b ≡ true = eq-eqb a b e in cc
 
 abbrev number_or_0 : Option SessionNo → ℕ
 number_or_0 None = 0
@@ -66,7 +64,7 @@ module _ (old new : Sessions) (numbers after : Numbers) (seat : ℕ) (keeps : Ke
   held_elsewhere n held apart = by_seat_held (nat_eq held.0 seat) refl where
     by_seat_held : (b : Bool) → nat_eq held.0 seat ≡ b → IsHeld after n
     by_seat_held true is = absurd (apart held.1 (ap (number_at numbers) (sym (eqb-true held.0 seat is)) ∙ held.2) held.3)
-    by_seat_held false is = (held.0, held.1, keeps.numbers_stay held.0 (apart_from held.0 seat is) ∙ held.2, held.3)
+    by_seat_held false is = (held.0, held.1, keeps.numbers_stay held.0 (differ held.0 seat is) ∙ held.2, held.3)
 
   -- the number at the seat, if there is one now, is of an open session and of no other seat
   abbrev IsOwn : SessionNo → Type 0
@@ -77,18 +75,18 @@ module _ (old new : Sessions) (numbers after : Numbers) (seat : ℕ) (keeps : Ke
     at_own a number at is = own number (ap (number_at after) (sym (eqb-true a seat is)) ∙ at)
 
     at_other : (a : ℕ) (number : SessionNo) → number_at after a ≡ Some number → nat_eq a seat ≡ false → number_at numbers a ≡ Some number
-    at_other a number at is = sym (keeps.numbers_stay a (apart_from a seat is)) ∙ at
+    at_other a number at is = sym (keeps.numbers_stay a (differ a seat is)) ∙ at
 
     open_still : (a : ℕ) (number : SessionNo) → number_at after a ≡ Some number → (b : Bool) → nat_eq a seat ≡ b → IsSome (slot new number.0)
     open_still a number at true is = (at_own a number at is).0
     open_still a number at false is =
         let before : number_at numbers a ≡ Some number = at_other a number at is in
-        ap is_some (keeps.sessions_stay a number (apart_from a seat is) before) ∙ are.are_open a number before
+        ap is_some (keeps.sessions_stay a number (differ a seat is) before) ∙ are.are_open a number before
 
     apart_still : (a b : ℕ) (x y : SessionNo) → number_at after a ≡ Some x → number_at after b ≡ Some y → x.0 ≡ y.0 → (a_is b_is : Bool) → nat_eq a seat ≡ a_is → nat_eq b seat ≡ b_is → a ≡ b
     apart_still a b x y at_a at_b same true true is_a is_b = eqb-true a seat is_a ∙ sym (eqb-true b seat is_b)
-    apart_still a b x y at_a at_b same true false is_a is_b = absurd ((at_own a x at_a is_a).1 b y (apart_from b seat is_b) (at_other b y at_b is_b) same)
-    apart_still a b x y at_a at_b same false true is_a is_b = absurd ((at_own b y at_b is_b).1 a x (apart_from a seat is_a) (at_other a x at_a is_a) (sym same))
+    apart_still a b x y at_a at_b same true false is_a is_b = absurd ((at_own a x at_a is_a).1 b y (differ b seat is_b) (at_other b y at_b is_b) same)
+    apart_still a b x y at_a at_b same false true is_a is_b = absurd ((at_own b y at_b is_b).1 a x (differ a seat is_a) (at_other a x at_a is_a) (sym same))
     apart_still a b x y at_a at_b same false false is_a is_b = are.are_apart a b x y (at_other a x at_a is_a) (at_other b y at_b is_b) same
 
     still_seats : AreSeats new after
@@ -151,7 +149,7 @@ module _ (old : Sessions) (numbers : Numbers) (are : AreSeats old numbers) (seat
         held : (n : ℕ) → IsSome (slot new n) → (b : Bool) → nat_eq n number.0 ≡ b → IsHeld (set numbers seat after) n
         held n lives true is = absurd (some_is_not_none (slot new n) lives (ap (slot new) (eqb-true n number.0 is) ∙ moves.moved))
         held n lives false is =
-            let apart : n ≢ number.0 = apart_from n number.0 is in
+            let apart : n ≢ number.0 = differ n number.0 is in
             held_elsewhere old new numbers (set numbers seat after) seat keeps-closed n (are.are_held n (ap is_some (sym (moves.others n apart)) ∙ lives))
             (λ theirs is_theirs same. apart (sym same ∙ same_numbers theirs number (sym is_theirs ∙ at)))
 
@@ -193,7 +191,7 @@ module _ (old : Sessions) (numbers : Numbers) (are : AreSeats old numbers) (seat
       held : (n : ℕ) → IsSome (slot new n) → (b : Bool) → nat_eq n number.0 ≡ b → IsHeld (set numbers seat after) n
       held n lives true same = (seat, number, number_there, sym (eqb-true n number.0 same))
       held n lives false same =
-          let before = is.others_held n (apart_from n number.0 same) lives in
+          let before = is.others_held n (differ n number.0 same) lives in
           held_elsewhere old new numbers (set numbers seat after) seat is.keeps n (are.are_held n before.0) before.1
 
     -- the seat was closed before
@@ -229,7 +227,7 @@ module _ (old : Sessions) (numbers : Numbers) (are : AreSeats old numbers) (seat
           held : (n : ℕ) → n ≢ number.0 → IsSome (slot new n) → (b : Bool) → nat_eq n before.0 ≡ b → IsSome (slot old n) × ((theirs : SessionNo) → number_at numbers seat ≡ Some theirs → theirs.0 ≢ n)
           held n apart lives true is = absurd (some_is_not_none (slot new n) lives (ap (slot new) (eqb-true n before.0 is) ∙ closes.moved))
           held n apart lives false is =
-              let other : n ≢ before.0 = apart_from n before.0 is in
+              let other : n ≢ before.0 = differ n before.0 is in
               (ap is_some (sym (closes.others n other ∙ opens.others n apart)) ∙ lives, λ theirs is_theirs same. other (sym same ∙ same_numbers theirs before (sym is_theirs ∙ at)))
 
       pub reopened_seat : Moves (by_seat old numbers) seat (Some idle_session) (by_seat new (set numbers seat after))

@@ -1,5 +1,5 @@
 -- What stands behind what there was.
-use Rattle.std.proofs.Common.{◌≡◌, ℕ, List, [], ◌++◌, refl, sym, ap, ◌∙◌, append_assoc, append-nil}
+use Rattle.std.proofs.Common.{◌≡◌, ℕ, List, [], ◌++◌, refl, sym, ◌∙◌, append-nil}
 use Rattle.reply_gate.specs.declared.parts.Parts.{Parts}
 use Rattle.reply_gate.specs.Parts.{Grows}
 
@@ -10,13 +10,3 @@ grows-text old new more values = record { texts = more.0; text = more.1; parts =
 -- nothing was
 pub grows-same : (parts : Parts) → Grows parts parts
 grows-same parts = grows-text parts parts ([], sym (append-nil parts.text.items)) refl
-
--- one thing behind another
-pub grows-on : (one two three : Parts) → Grows one two → Grows two three → Grows one three
-grows-on one two three first then =
-    record {
-      texts = first.texts ++ then.texts;
-      text = then.text ∙ ap (λ text. text ++ then.texts) first.text ∙ append_assoc one.text.items first.texts then.texts;
-      parts = first.parts ++ then.parts;
-      values = then.values ∙ ap (λ parts. parts ++ then.parts) first.values ∙ append_assoc one.values.items first.parts then.parts;
-    }

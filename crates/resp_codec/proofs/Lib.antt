@@ -6,5 +6,6 @@ pub mod ReplyItems
 pub mod ReplyParts
 pub mod ReplyPieces
 pub mod ReplyTakes
+pub mod ReplyReadBack
 pub mod ReplyTexts
 pub mod UnreadReads

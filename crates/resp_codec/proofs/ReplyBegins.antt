@@ -24,7 +24,7 @@ use Rattle.resp_codec.specs.ReplyGrammar.{IsLine, IsReadableTo}
 use Rattle.resp_codec.specs.ReplyReading.{line_length, line_at, negative_at, integer_at, Head, Whole, Opens, whole, after_null, bulk_at, count_at, head_at, elements_at, reply_from, reply_at}
 use Rattle.resp_codec.proofs.ReplyGrows.{line_length-le}
 use Rattle.resp_codec.proofs.ReplyTakes.{IsLine-line_length, positive, head_text, IsReadableHead, head_at-takes, Takes, HasReplyNumbers, reply_at-takes}
-use Rattle.resp_codec.proofs.ReplyTexts.{text_of-Array}
+use Rattle.kv_types.proofs.ReplyLemmas.{text_of-Array}
 
 -- the whole begins with the bytes
 pub record IsStartOf (whole bytes : List ℕ) : Type 0 where

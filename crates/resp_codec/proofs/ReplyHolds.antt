@@ -12,7 +12,8 @@ use Rattle.resp_codec.specs.declared.reply_limits.ReplyLimits.{ReplyLimits}
 use Rattle.resp_codec.specs.ReplyGrammar.{IsReadable, BeginsReply, HoldsReplies}
 use Rattle.resp_codec.specs.ReplyReading.{reply_at, reply_items_from, replies_at}
 use Rattle.resp_codec.proofs.ReplyGrows.{reply_at-more}
-use Rattle.resp_codec.proofs.ReplyTakes.{HasReplyNumbers, reply_at-takes, reply_at-again}
+use Rattle.resp_codec.proofs.ReplyTakes.{HasReplyNumbers, reply_at-takes}
+use Rattle.resp_codec.proofs.ReplyReadBack.{reply_at-again}
 use Rattle.resp_codec.proofs.ReplyBegins.{reply_at-short}
 use Rattle.resp_codec.proofs.ReplyItems.{shorter, replies_at-step, replies_at-again}
 

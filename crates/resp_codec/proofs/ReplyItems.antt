@@ -16,7 +16,8 @@ use Rattle.resp_codec.specs.GivesReplies.{IsFirstReply}
 use Rattle.resp_codec.specs.ReplyGrammar.{IsReadable}
 use Rattle.resp_codec.specs.ReplyReading.{reply_at, reply_items_from, reply_items_within, replies_at}
 use Rattle.resp_codec.proofs.ReplyGrows.{reply_at-more}
-use Rattle.resp_codec.proofs.ReplyTakes.{HasReplyNumbers, reply_at-takes, reply_at-again}
+use Rattle.resp_codec.proofs.ReplyTakes.{HasReplyNumbers, reply_at-takes}
+use Rattle.resp_codec.proofs.ReplyReadBack.{reply_at-again}
 
 text_of-some : (reply : Reply) → 0 < length (text_of reply)
 text_of-some NullBulk = omega arith

@@ -18,9 +18,6 @@ pub reply_at-by_depth : (limits : ReplyLimits) (depth : ℕ) (bytes : List ℕ) 
 reply_at-by_depth limits zero bytes = refl
 reply_at-by_depth limits (suc depth) bytes = refl
 
-pub reply_at-stop : (limits : ReplyLimits) (depth : ℕ) (bytes : List ℕ) (stop : Stop ProtocolFault) → head_at limits.bulk_bytes (most_at limits depth) bytes ≡ Err stop → reply_at limits depth bytes ≡ Err stop
-reply_at-stop limits depth bytes stop e = reply_at-by_depth limits depth bytes ∙ ap (λ r. r >>= from_head limits depth) e
-
 pub reply_at-head : (limits : ReplyLimits) (depth : ℕ) (bytes : List ℕ) (head : Head) (rest : List ℕ) → head_at limits.bulk_bytes (most_at limits depth) bytes ≡ Ok (head, rest) → reply_at limits depth bytes ≡ reply_from (element_at limits depth) head rest
 reply_at-head limits depth bytes head rest e = reply_at-by_depth limits depth bytes ∙ ap (λ r. r >>= from_head limits depth) e
 

@@ -1,30 +1,12 @@
 -- The text of an array, by its replies as a list.
-use Rattle.std.proofs.Common.{◌≡◌, ℕ, ◌+◌, ◌<◌, ◌≤◌, List, ◌∷◌, ◌++◌, length, refl, ap, sym, ◌∙◌, arith}
+use Rattle.std.proofs.Common.{◌≡◌, ℕ, ◌+◌, ◌<◌, ◌≤◌, List, ◌∷◌, ◌++◌, length, ap, sym, ◌∙◌, arith}
 use Rattle.std.specs.List.{flat_map}
-use mathlib.Core.Former.{Count}
-use Rattle.kv_types.specs.declared.reply.Reply.{Reply, Array, Array', Row_of-Reply, end_of-Reply, more_of-Reply, items-the_row-Reply, items_hidden-the_row-Reply-0}
+use Rattle.kv_types.specs.declared.reply.Reply.{Reply, Array}
 use Rattle.std.proofs.lemmas.List.{append_assoc, length-append}
 use Rattle.std.specs.Fmt.{decimal}
 use Rattle.kv_types.specs.Request.{line_end, number_line}
-use Rattle.kv_types.specs.Reply.{row_length, text_of, texts_of}
-
-abbrev row_of : Reply → (n : Count) × Row_of-Reply n
-row_of (Array' _ row) = (_, row)
-row_of _ = (_, end_of-Reply)
-
-texts_of-items : (n : _) (row : Row_of-Reply n) → texts_of row ≡ flat_map text_of (items-the_row-Reply n row)
-texts_of-items n end_of-Reply = refl
-texts_of-items n (more_of-Reply reply rest) = ap (λ x. text_of reply ++ x) (texts_of-items _ rest)
-
-row_length-items : (n : _) (row : Row_of-Reply n) → row_length row ≡ length (items-the_row-Reply n row)
-row_length-items n end_of-Reply = refl
-row_length-items n (more_of-Reply reply rest) = omega (arith, row_length-items _ rest)
-
-pub text_of-Array : (replies : List Reply) → text_of (Array replies) ≡ 42 ∷ number_line (length replies) ++ flat_map text_of replies
-text_of-Array replies =
-    let row = row_of (Array replies) in
-    let same = items_hidden-the_row-Reply-0 replies in
-    ap (λ n. 42 ∷ number_line n ++ texts_of row.1) (row_length-items row.0 row.1 ∙ ap length same) ∙ ap (λ x. 42 ∷ number_line (length replies) ++ x) (texts_of-items row.0 row.1 ∙ ap (flat_map text_of) same)
+use Rattle.kv_types.specs.Reply.{text_of}
+use Rattle.kv_types.proofs.ReplyLemmas.{text_of-Array}
 
 -- how long it is: a first byte, the number of replies and its line end, and the replies
 pub length-text_of-Array : (replies : List Reply) → length (text_of (Array replies)) ≡ length (decimal (length replies)) + 3 + length (flat_map text_of replies)

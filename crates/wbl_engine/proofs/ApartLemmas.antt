@@ -8,10 +8,11 @@ use Rattle.model.specs.declared.group.Put.{Put}
 use Rattle.model.specs.Image.{Version}
 use Rattle.model.specs.Group.{Versions, Contents, IsGroup, IsUnused, AreApart, IsApartFrom, AreAllApart, is_put_at, puts_of_part, part_versions, parts_versions, version_of_put, after_group}
 use Rattle.wbl_engine.specs.Stage.{puts_of_parts}
-use Rattle.wbl_engine.proofs.GroupSteps.{all-from, apart-prefix, apart-back, apart-across, flip_apart}
+use Rattle.wbl_engine.proofs.GroupSteps.{all-from, apart-across, flip_apart}
 use Rattle.wbl_engine.proofs.PartEffects.{IsAmong, end_if, end_if_begun, changes_kept, changes_made, is_put_at-among}
 use Rattle.wbl_engine.proofs.PutPairs.{among-all}
 use Rattle.wbl_engine.proofs.StagingLemmas.{all-prefix, all-back}
+use Rattle.model.proofs.GroupsLemmas.{AreAllApart-prefix, AreAllApart-rest}
 
 -- two runs of lines, of which each has a first line and a length
 abbrev pub LieApart : Version → Version → Type 0
@@ -108,7 +109,7 @@ still_fresh : (versions : Versions) (part : Part) (later : List Put) → AllByRe
     → AreAllApart (puts_of_part part ++ later) → (put : Put) → IsAmong put later → IsFresh (part_versions versions part) put
 still_fresh versions part later fresh puts_are put among i version is =
     let puts : List Put = puts_of_part part in
-    elim ((comes_from versions part (apart-prefix puts later puts_are) i version is).source) [
+    elim ((comes_from versions part (AreAllApart-prefix puts later puts_are) i version is).source) [
       | inl (other, there, at, first, count) ↦
           apart_as {a' = put.extent.first_line} {b' = put.extent.lines} refl refl first count
           (flip_apart other.extent.first_line other.extent.lines put.extent.first_line put.extent.lines
@@ -126,10 +127,10 @@ parts_apart (part ∷ parts) versions apart fresh puts_are =
     let first : List Put = puts_of_part part in
     let later : List Put = puts_of_parts parts in
     parts_apart parts (part_versions versions part)
-    (part_apart versions part apart (all-prefix (IsFresh versions) first later fresh) (apart-prefix first later puts_are))
+    (part_apart versions part apart (all-prefix (IsFresh versions) first later fresh) (AreAllApart-prefix first later puts_are))
     (all-from (IsFresh (part_versions versions part)) later
     (λ put among. still_fresh versions part later fresh puts_are put among))
-    (apart-back first later puts_are)
+    (AreAllApart-rest first later puts_are)
 
 -- After a group no two versions have a line in common.
 pub group_apart : (contents : Contents) (group : Group) → AreVersionsApart contents.versions → IsGroup contents group

@@ -12,7 +12,7 @@ use Rattle.wbl_engine.specs.Lawful.{AreLawful}
 use Rattle.wbl_engine.proofs.ApartLemmas.{puts_apart}
 use Rattle.wbl_engine.proofs.ClashLemmas.{AreDistinct, distinct_keyspace, distinct_map}
 use Rattle.wbl_engine.proofs.CopyEnding.{copied_is_lawful}
-use Rattle.wbl_engine.proofs.CopyStaging.{with_puts-among, with_puts-none}
+use Rattle.wbl_engine.proofs.CopyImages.{with_puts-among, with_puts-none}
 use Rattle.wbl_engine.proofs.GroupSteps.{flip_apart}
 use Rattle.wbl_engine.proofs.LawfulLemmas.{below_limit, some_version}
 use Rattle.wbl_engine.proofs.SuccessorLemmas.{standby_other}

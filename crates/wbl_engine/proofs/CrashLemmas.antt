@@ -1,5 +1,5 @@
 -- A crash of the present moment, or of one that was kept.
-use Rattle.std.proofs.Common.{◌≡◌, ℕ, ◌+◌, ◌≤◌, false, List, Option, Some, None, [], ◌∷◌, length, inl, inr, ◌⊎◌, refl, sym, ap, subst, ◌∙◌, arith}
+use Rattle.std.proofs.Common.{◌≡◌, ℕ, ◌+◌, false, List, Option, Some, None, [], ◌∷◌, length, inl, inr, ◌⊎◌, sym, ap, subst, ◌∙◌, arith}
 use Rattle.std.specs.Prelude.{nat_le}
 use Rattle.std.proofs.lemmas.Bool.{cases_lt, cond-false, cond-true, le-leb, lt-leb}
 use Rattle.pmem.specs.Device.{MayBe, State, Word, moment, newest_at}
@@ -10,11 +10,7 @@ use Rattle.pmem.proofs.Staging.{IsImage-settled}
 use Rattle.model.specs.declared.record.Record.{Record}
 use Rattle.wbl_engine.specs.AtRest.{IsAtRest}
 use Rattle.wbl_engine.specs.Copying.{IsHalf}
-
--- the words of the present moment are the present ones
-words_at-now : (now : ℕ → Word) (past : List (ℕ → Word)) (t : ℕ) → length past ≤ t → words_at now past t ≡ now
-words_at-now now [] t late = refl
-words_at-now now (words ∷ past) t late = cond-false (nat_le t (length past)) _ _ (lt-leb t (length past) (omega (arith, late)))
+use Rattle.pmem.proofs.Keeping.{words_at-now}
 
 -- the device was asked to keep the present moment, and then crashed
 pub record IsCrashed (old asked new : State) : Type 0 where

@@ -7,7 +7,7 @@ use Rattle.kv_types.specs.declared.place.Extent.{Extent}
 use Rattle.pmem.specs.Device.{State}
 use Rattle.pmem.specs.Crash.{image_of}
 use Rattle.pmem.specs.Runs.{LeavesOnly, Staged, IsPartlyStored, written}
-use Rattle.pmem.proofs.Leaving.{LeavesOnly-weaken, none_leaves}
+use Rattle.pmem.proofs.Leaving.{LeavesOnly-weaken}
 use Rattle.model.specs.declared.image.TheConstants.{MIN_LINES}
 use Rattle.model.specs.declared.record.Record.{Record}
 use Rattle.model.specs.Image.{Image, IsMapOf, Version, entry_word, entries_of_lines, counts, version_at, version_in}
@@ -146,10 +146,6 @@ module _ (r : Record) (d : State) (entries : List EntryNo) (rest : IsAtRest r d)
 
   pub freed_moments : (b : State) → LeavesOnly d b (IsPartlyStored (erase_pairs entries []) d.words) → LeavesOnly d b (KeepsWithoutSome entries (contents_of r d))
   freed_moments b moments = LeavesOnly-weaken (KeepsWithoutSome entries (contents_of r d)) freed_partly moments
-
-  -- where nothing was stored
-  pub freed_none : LeavesOnly d d (KeepsWithoutSome entries (contents_of r d))
-  freed_none = none_leaves d (KeepsWithoutSome entries (contents_of r d)) (λ image is. freed_partly image (λ word. inl (is word)))
 
 -- ---- the map
 

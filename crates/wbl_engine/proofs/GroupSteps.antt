@@ -10,7 +10,7 @@ use Rattle.model.specs.declared.group.Put.{Put}
 use Rattle.model.specs.Layout.{directory_room, entries_of_lines}
 use Rattle.model.specs.Image.{Image, Version}
 use Rattle.model.specs.Group.{Versions, IsPlaced, HasItsLines, AreApart, IsApartFrom, AreAllApart, is_put_at, puts_of_part, part_versions, parts_versions, version_of_put}
-use Rattle.model.proofs.GroupsLemmas.{placed_in_more}
+use Rattle.model.proofs.GroupsLemmas.{placed_in_more, AreAllApart-prefix, AreAllApart-rest}
 use Rattle.model.proofs.LayoutLemmas.{entries_fit}
 use Rattle.wbl_engine.specs.Committing.{AreNamed}
 use Rattle.wbl_engine.specs.Stage.{IsWritable, part_pairs, parts_pairs, puts_of_parts}
@@ -22,14 +22,6 @@ use Rattle.wbl_engine.proofs.PutPairs.{among-all}
 use Rattle.wbl_engine.proofs.StagingLemmas.{all-prefix, all-back}
 
 -- concatenated lists
-
-pub apart-prefix : (a b : List Put) → AreAllApart (a ++ b) → AreAllApart a
-apart-prefix [] b apart = tt
-apart-prefix (put ∷ a) b apart = (all-prefix (IsApartFrom put) a b apart.0, apart-prefix a b apart.1)
-
-pub apart-back : (a b : List Put) → AreAllApart (a ++ b) → AreAllApart b
-apart-back [] b apart = apart
-apart-back (put ∷ a) b apart = apart-back a b apart.1
 
 -- each put of the first list is apart from each put of the second
 pub apart-across : (a b : List Put) → AreAllApart (a ++ b) → (put other : Put) → IsAmong put a → IsAmong other b → IsApartFrom put other
@@ -73,7 +65,7 @@ part_stored entries lines versions image part parts stored =
       fitting = all-prefix HasItsLines a b stored.fitting;
       writable = all-prefix IsWritable a b stored.writable;
       ready = all-prefix (IsReady versions image) a b stored.ready;
-      apart = apart-prefix a b stored.apart;
+      apart = AreAllApart-prefix a b stored.apart;
     }
 
 -- a put of a later part still has its place
@@ -97,7 +89,7 @@ still_ready entries lines stamp versions image part parts fit stored put among =
           elim (cases_Bool (is_put_at i a)) [
             | inl there ↦
                 let at = is_put_at-among i a there in
-                let made = changes_made part.position versions part.changes.items at.0 at.1 (apart-prefix a b stored.apart) in
+                let made = changes_made part.position versions part.changes.items at.0 at.1 (AreAllApart-prefix a b stored.apart) in
                 let same : Some version ≡ Some (end_if made.test (version_of_put part.position at.0)) =
                 sym is ∙ ap (part_versions versions part) at.2 ∙ made.is in
                 let version_is : version ≡ end_if made.test (version_of_put part.position at.0) = cc in
@@ -130,7 +122,7 @@ rest_stored entries lines stamp versions image part parts fit stored =
       writable = all-back IsWritable a b stored.writable;
       ready = all-from (IsReady (part_versions versions part) (written (part_pairs stamp part) image)) b
           (λ put among. still_ready entries lines stamp versions image part parts fit stored put among);
-      apart = apart-back a b stored.apart;
+      apart = AreAllApart-rest a b stored.apart;
     }
 
 -- The versions after the stores of all parts, under the record with one more stamp for each part, are those after their changes.

@@ -69,26 +69,6 @@ unstaged_beyond r d i beyond =
     (and_left (nat_lt i (entries_of_lines r.layout d.lines)) (nat_lt r.cp (image_of d.words (entry_word i 0)))
     (le-ltb i (entries_of_lines r.layout d.lines) beyond))
 
--- what is staged is of the directory, and has the stamp
-pub record IsStagedAt (r : Record) (d : State) (i : ℕ) (version : Version) : Type 0 where
-  pub within : i < entries_of_lines r.layout d.lines
-  pub above : r.cp < image_of d.words (entry_word i 0)
-  pub is : version ≡ version_in r (image_of d.words) i
-
-pub staged_where : (r : Record) (d : State) (i : ℕ) (version : Version) → staged_of true r d i ≡ Some version → IsStagedAt r d i version
-staged_where r d i version staged =
-    elim (cases_lt i (entries_of_lines r.layout d.lines)) [
-      | inl within ↦
-          elim (cases_lt r.cp (image_of d.words (entry_word i 0))) [
-            | inl above ↦
-                let at = staged_at r d i within above in
-                let same : Some version ≡ Some (version_in r (image_of d.words) i) = sym staged ∙ at in
-                record { within = within; above = above; is = cc }
-            | inr low ↦ absurd (some_version version (sym (unstaged_at r d i low) ∙ staged))
-          ]
-      | inr beyond ↦ absurd (some_version version (sym (unstaged_beyond r d i beyond) ∙ staged))
-    ]
-
 -- ---- what the newcomer holds
 
 -- an entry whose begin does not count holds no version
@@ -219,6 +199,9 @@ module _ {r : Record} {d : State} (copying : Bool) (rest : copying ≡ false →
         | inl begun ↦ ap (λ (b : Bool). staged_of b r d i) begun
         | inr idle ↦ ap (λ (b : Bool). staged_of b r d i) idle ∙ sym (rest_unstaged (rest idle) i)
       ]
+
+  pub staged_same : staged_of true r d ≡ staged_of copying r d
+  staged_same = λ j i. sym (sound_staged i) j
 
   -- where there is a version, no copy is under way
   pub held_idle : (i : ℕ) (version : Version) → (contents_of r d).versions i ≡ Some version → copying ≡ true → ⊥

@@ -10,6 +10,7 @@ pub mod CopyDropping
 pub mod CopyEnding
 pub mod CopyLaws
 pub mod CopyStaging
+pub mod CopyImages
 pub mod CountLemmas
 pub mod Covering
 pub mod CrashLemmas

@@ -1,9 +1,9 @@
 -- The floor is raised by a record of its own, and then what ended up to it is freed.
-use Rattle.std.proofs.Common.{◌≡◌, ◌≢◌, ◌⊎◌, ℕ, ◌+◌, ◌<◌, ◌≤◌, false, None, Option, Result, Ok, Err, inl, inr, List, [], ◌∷◌, max, refl, sym, ap, subst, ◌∙◌, arith}
+use Rattle.std.proofs.Common.{◌≡◌, ◌≢◌, ◌⊎◌, ℕ, ◌+◌, ◌<◌, ◌≤◌, None, Option, Result, Ok, Err, inl, inr, List, [], ◌∷◌, max, refl, sym, ap, subst, ◌∙◌, arith}
 use Rattle.std.specs.Prelude.{nat_lt, IfErr, IsErrOf, IsTrue}
 use Rattle.std.proofs.Math.Bool.{or-false}
-use Rattle.std.proofs.Math.Nat.{le-max_right, max-eq_left}
-use Rattle.std.proofs.lemmas.Bool.{cases_Bool, cases_lt, cond-true, cond-false, le-ltb, lt-ltb, ltb-true, both_ways}
+use Rattle.std.proofs.Math.Nat.{max-eq_left}
+use Rattle.std.proofs.lemmas.Bool.{cases_lt, cond-false, le-ltb}
 use Rattle.kv_types.specs.declared.place.EntryNo.{EntryNo}
 use Rattle.kv_types.specs.declared.refusal.Refusal.{Refusal}
 use Rattle.kv_types.specs.declared.refusal.Refusal.TheVariants.{Exhausted, Fault, Memory}
@@ -15,7 +15,7 @@ use Rattle.model.specs.declared.group.Group.{Group}
 use Rattle.model.specs.declared.image.TheConstants.{COUNTER_LIMIT}
 use Rattle.model.specs.declared.layout.Layout.{Layout}
 use Rattle.model.specs.declared.record.Record.{Record}
-use Rattle.model.specs.Floor.{floored, floor_raised, raised_record}
+use Rattle.model.specs.Floor.{floored, floor_raised}
 use Rattle.model.specs.Group.{Contents, after_group, entries_of, is_ended_version}
 use Rattle.model.specs.Image.{Image, Version, entries_of_lines}
 use Rattle.wbl_record.specs.Current.{IsLawful}
@@ -54,27 +54,6 @@ raised_is_lawful r number floor lawful up below =
 pub rises : (a b : ℕ) → a < max a b → a < b
 rises a b above =
     elim (cases_lt a b) [ inl lt ↦ lt | inr le ↦ let same = max-eq_left le in absurd (omega (arith, same, above)) ]
-
--- it is the current one, or the next
-pub raised_either : (floor : ℕ) (r : Record) → IsRaised r (raised_record floor r)
-raised_either floor r =
-    elim (cases_Bool (nat_lt r.floor floor)) [
-      | inl up ↦
-          let number = cond-true (nat_lt r.floor floor) (r.number + 1) r.number up in
-          let above : r.floor < max r.floor floor = rises_above r.floor floor (ltb-true r.floor floor up) in
-          inr (above, λ i. record r { number = number i; floor = max r.floor floor })
-      | inr stays ↦
-          let number = cond-false (nat_lt r.floor floor) (r.number + 1) r.number stays in
-          let low : floor ≤ r.floor = not_below r.floor floor stays in
-          let same = max-eq_left low in
-          inl (λ i. record r { number = number i; floor = same i })
-    ]
-  where
-    rises_above : (a b : ℕ) → a < b → a < max a b
-    rises_above a b lt = let high = le-max_right a b in omega (arith, lt, high)
-
-    not_below : (a b : ℕ) → nat_lt a b ≡ false → b ≤ a
-    not_below a b is = elim (cases_lt a b) [ inl lt ↦ absurd (both_ways (nat_lt a b) is (lt-ltb a b lt)) | inr le ↦ le ]
 
 -- one of the same number is the same
 pub raised_same : (r next : Record) → IsRaised r next → next.number ≡ r.number → next ≡ r

@@ -18,7 +18,7 @@ use Rattle.model.specs.declared.group.Put.{Put}
 use Rattle.model.specs.declared.record.Record.{Record}
 use Rattle.model.specs.Group.{AreAllApart, Contents, HasItsLines, IsApartFrom, IsConsistent, IsPlaced, IsUnused, NamesEnded, Versions, change_of, ends_record, entries_of, is_put_at, part_versions, parts_versions, puts_of_part}
 use Rattle.model.specs.Image.{IsLive, IsMapOf, counts, entries_of_lines, entry_word, map_below}
-use Rattle.model.proofs.GroupsLemmas.{IsMapOf-changes, changes_versions-none, parts_versions-none}
+use Rattle.model.proofs.GroupsLemmas.{IsMapOf-changes, changes_versions-none, parts_versions-none, AreAllApart-prefix, AreAllApart-rest}
 use Rattle.model.proofs.MapLemmas.{IsMapOf-same}
 use Rattle.model.proofs.VersionsLemmas.{HasRoom, value_at-put, without_ended}
 use Rattle.model.proofs.DirectoryLemmas.{entries_same}
@@ -31,17 +31,15 @@ use Rattle.wbl_engine.proofs.ApartLemmas.{IsFresh, parts_apart}
 use Rattle.wbl_engine.proofs.ClashLemmas.{AreDistinct, distinct_keyspace, distinct_map, parts_distinct}
 use Rattle.wbl_engine.proofs.CountLemmas.{counts-above}
 use Rattle.wbl_engine.proofs.Erased.{versions-beyond, versions-within}
-use Rattle.wbl_engine.proofs.GroupSteps.{all-from, apart-across, apart-back, apart-prefix, flip_apart}
+use Rattle.wbl_engine.proofs.GroupSteps.{all-from, apart-across, flip_apart}
 use Rattle.wbl_engine.proofs.LawfulLemmas.{below_limit, lawful_distinct, some_version}
 use Rattle.wbl_engine.proofs.PartEffects.{IsAmong, apart-is_put_at, is_put_at-among}
 use Rattle.wbl_engine.proofs.PutPairs.{among-all}
 use Rattle.wbl_engine.proofs.StagingLemmas.{all-back, all-prefix}
 use Rattle.wbl_engine.proofs.SuccessorLemmas.{lawful_later}
+use Rattle.std.proofs.lemmas.Option.{none-some}
 
 -- ---- a keyspace in which a record is written again
-
-none_some : {X : Type 0} {x : X} → None ≡ Some x → ⊥
-none_some e = cc
 
 none_if : {X : Type 0} (o : Option X) → ((x : X) → o ≡ Some x → ⊥) → o ≡ None
 none_if None other = refl
@@ -59,7 +57,7 @@ no_other s lawful (Field key field) value found (Str a) ends other =
       | inl same ↦ absurd (both_ways (is_same (Str a) (Field key field)) other same)
       | inr string ↦
           ap (value_at s) (same_record (Str a) (Str key) string)
-          ∙ none_if (value_at s (Str key)) (λ x is. none_some (sym (lawful.one_kind key field (ap is_some is)) ∙ found))
+          ∙ none_if (value_at s (Str key)) (λ x is. none-some _ (sym (lawful.one_kind key field (ap is_some is)) ∙ found))
     ]
 no_other s lawful (Field key field) value found (Field a f) ends other =
     elim (or_cases (is_same (Field a f) (Field key field)) (is_same (Field a f) (Str key)) ends) [
@@ -130,7 +128,7 @@ module _ (entries : ℕ) (versions : Versions) (part : Part) (beyond : NoneFrom 
   moved_within =
       elim (cases_lt same.entry entries) [
         | inl within ↦ within
-        | inr over ↦ absurd (none_some (sym (beyond same.entry over) ∙ same.held))
+        | inr over ↦ absurd (none-some _ (sym (beyond same.entry over) ∙ same.held))
       ]
 
   moved_live : IsLive versions same.entry same.put.id same.put.value
@@ -185,8 +183,8 @@ parts_map position entries (part ∷ parts) versions beyond each rooms apart s l
       within = room.within;
       empty = changes_versions-none part.position versions part.changes.items put.entry.0 room.empty (beside first later apart put among);
     }))
-    (apart-back first later apart) s lawful
-    (part_map entries versions part beyond each.1 own (apart-prefix first later apart) s lawful map_is)
+    (AreAllApart-rest first later apart) s lawful
+    (part_map entries versions part beyond each.1 own (AreAllApart-prefix first later apart) s lawful map_is)
 
 module _ {contents : Contents} {parts : List Part} (consistent : IsConsistent contents) (asked : IsRelocation contents parts) where
   rooms : AllByRecursion (HasRoom contents.versions (entries_of contents)) (puts_of_parts parts)

@@ -14,6 +14,7 @@ use Rattle.wbl_engine.specs.Freeing.{Clears, is_listed, without}
 use Rattle.wbl_engine.specs.Lawful.{AreLawful}
 use Rattle.wbl_engine.proofs.GapLemmas.{lawful_but_one}
 use Rattle.wbl_engine.proofs.LawfulLemmas.{lawful_from}
+use Rattle.std.proofs.lemmas.Option.{none-some}
 
 -- each of these entries holds a version that has ended
 abbrev pub AllEnded : (ℕ → Bool) → Versions → Type 0
@@ -25,12 +26,9 @@ versions_without gone versions = λ i. cond (gone i) None (versions i)
 
 -- ---- versions that are left
 
-none_some : {X : Type 0} {x : X} → None ≡ Some x → ⊥
-none_some e = cc
-
 -- what is left was there
 pub was_there : (gone : Bool) (old : Option Version) (version : Version) → cond gone None old ≡ Some version → old ≡ Some version
-was_there true old version e = absurd (none_some e)
+was_there true old version e = absurd (none-some _ e)
 was_there false old version e = e
 
 -- a live version is not one that has ended

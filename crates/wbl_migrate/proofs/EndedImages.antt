@@ -19,6 +19,38 @@ use Rattle.wbl_migrate.specs.Ended.{IsCopyable, IsMovable, after_move, at_line, 
 use Rattle.wbl_migrate.proofs.EndedCopies.{IsCopied, copied_entry, copied_version, copy_where, staged_copied}
 use Rattle.wbl_migrate.proofs.EndedEntries.{HasHead, IsHead, IsLeft, IsOneStored, all_same, begun_version, empty_uncounted, entry_left, head_same, held_begun, keeps_same, now_partly, one_stored, stored_one}
 
+-- each entry has its line in the room of the directory
+fits : (contents : Contents) (i : ℕ) → i < entries_of contents → i < directory_room contents.lines
+fits contents i within = omega (arith, within, entries_fit contents.current.layout contents.lines)
+
+not_head : (contents : Contents) (i word : ℕ) → i < entries_of contents → IsHead contents.current.layout contents.lines word → entry_word i 0 ≤ word → word < entry_word i 8 → ⊥
+not_head contents i word within is low high =
+    elim is.beside [ inl before ↦ omega (arith, before, low) | inr behind ↦ omega (arith, behind, high, within) ]
+
+-- an image that differs in the begin of one entry
+module _ {contents : Contents} {base image : Image} (keeps : Keeps contents base) (at : ℕ) (inside : at < entries_of contents)
+    (others : (word : ℕ) → word ≢ entry_word at 0 → image word ≡ base word) where
+  head_kept : HasHead contents image
+  head_kept =
+      head_same keeps (omega (arith, inside))
+      (λ word is. others word (λ same. not_head contents at word inside is (omega (arith, same)) (omega (arith, same))))
+
+  word_kept : (i k : ℕ) → k < 8 → (i ≡ at → 1 ≤ k) → image (entry_word i k) ≡ base (entry_word i k)
+  word_kept i k low later =
+      others (entry_word i k)
+      (λ same. let here : i ≡ at = omega (arith, low, same) in omega (arith, here, same, later here))
+
+  left_kept : (i : ℕ) → i < entries_of contents → i ≢ at → IsLeft contents.current contents.lines base image i
+  left_kept i within other =
+      entry_left (keeps.entries i within) (word_kept i 0 (omega arith) (λ here. absurd (other here)))
+      (omega (arith, word_kept i 1 (omega arith) (λ here. omega arith), (keeps.entries i within).end))
+      (λ counted.
+      let entry = (keeps.entries i within).whole counted in (
+        word_kept i 1 (omega arith) (λ here. omega arith),
+        same_entry entry (λ k low high. word_kept i k high (λ here. omega (arith, low)))
+            (λ word place. others word (λ same. omega (arith, same, place.low, entry.above, fits contents at inside))),
+      ))
+
 -- ---- the move
 
 module _ {contents : Contents} {from to to_line : ℕ} {version : Version} (may : IsMovable contents from to to_line version) where
@@ -31,14 +63,6 @@ module _ {contents : Contents} {from to to_line : ℕ} {version : Version} (may 
   some_entry : 0 < entries_of contents
   some_entry = let within = may.from_within in omega (arith, within)
 
-  -- each entry has its line in the room of the directory
-  fits : (i : ℕ) → i < entries_of contents → i < directory_room contents.lines
-  fits i within = omega (arith, within, entries_fit contents.current.layout contents.lines)
-
-  not_head : (i word : ℕ) → i < entries_of contents → IsHead contents.current.layout contents.lines word → entry_word i 0 ≤ word → word < entry_word i 8 → ⊥
-  not_head i word within is low high =
-      elim is.beside [ inl before ↦ omega (arith, before, low) | inr behind ↦ omega (arith, behind, high, within) ]
-
   pub copyable : (base : Image) → Keeps contents base → IsCopyable contents.lines base from to to_line
   copyable base keeps =
       let begun = held_begun keeps from version may.from_within may.held in
@@ -46,8 +70,8 @@ module _ {contents : Contents} {from to to_line : ℕ} {version : Version} (may 
       let count : base (entry_word from 4) ≡ version.lines = ap (λ (v : Version). v.lines) begun.1 in
       let first : base (entry_word from 3) ≡ version.first_line = ap (λ (v : Version). v.first_line) begun.1 in
       record {
-        from_within = fits from may.from_within;
-        to_within = fits to may.placed.entry;
+        from_within = fits contents from may.from_within;
+        to_within = fits contents to may.placed.entry;
         extent = omega (arith, entry.in_format.extent, entry.lines_are);
         above = may.placed.above;
         within = omega (arith, may.placed.within, count);
@@ -102,7 +126,7 @@ module _ {contents : Contents} {from to to_line : ℕ} {version : Version} (may 
               | inr stored ↦
                   elim (stored_at word (image word) stored) [
                     | inl lines ↦ absurd (omega (arith, is.before, lines.0, may.placed.above))
-                    | inr entry ↦ absurd (not_head to word may.placed.entry is (omega (arith, entry.0)) (omega (arith, entry.1)))
+                    | inr entry ↦ absurd (not_head contents to word may.placed.entry is (omega (arith, entry.0)) (omega (arith, entry.1)))
                   ]
             ]
 
@@ -115,7 +139,7 @@ module _ {contents : Contents} {from to to_line : ℕ} {version : Version} (may 
               | inl same ↦ same
               | inr stored ↦
                   elim (stored_at (entry_word i k) (image (entry_word i k)) stored) [
-                    | inl lines ↦ absurd (omega (arith, low, fits i within, lines.0, may.placed.above))
+                    | inl lines ↦ absurd (omega (arith, low, fits contents i within, lines.0, may.placed.above))
                     | inr entry ↦
                         let here : i ≡ to = omega (arith, low, entry.0, entry.1) in
                         absurd (omega (arith, entry.0, here, begin here))
@@ -135,7 +159,7 @@ module _ {contents : Contents} {from to to_line : ℕ} {version : Version} (may 
                           | inl before ↦ absurd (omega (arith, lines.1, at.low, before))
                           | inr behind ↦ absurd (omega (arith, lines.0, at.high, behind))
                         ]
-                    | inr of_entry ↦ absurd (omega (arith, of_entry.1, at.low, entry.above, fits to may.placed.entry))
+                    | inr of_entry ↦ absurd (omega (arith, of_entry.1, at.low, entry.above, fits contents to may.placed.entry))
                   ]
             ]
 
@@ -145,7 +169,7 @@ module _ {contents : Contents} {from to to_line : ℕ} {version : Version} (may 
               | inl same ↦ omega (arith, same, (keeps.entries i within).end)
               | inr stored ↦
                   elim (copy_where (image_of d.words) from to to_line (entry_word i 1) (image (entry_word i 1)) stored) [
-                    | inl lines ↦ absurd (omega (arith, fits i within, lines.low, may.placed.above))
+                    | inl lines ↦ absurd (omega (arith, fits contents i within, lines.low, may.placed.above))
                     | inr entry ↦
                         let first : entry_word i 1 - entry_word to 1 ≡ 0 = omega (arith, entry.0.low, entry.0.high) in
                         let is : image_of d.words (entry_word from 1) ≡ image (entry_word i 1) =
@@ -176,7 +200,7 @@ module _ {contents : Contents} {from to to_line : ℕ} {version : Version} (may 
 
     pub copy_is : {b : State} → Staged d b (copy_pairs (image_of d.words) from to to_line) (copy_lines (image_of d.words) from to to_line)
         → (image : Image) → IsImage b.words image → IsCopied (image_of d.words) image from to to_line
-    copy_is staged = staged_copied from to to_line (omega (arith, fits to may.placed.entry, may.placed.above)) staged
+    copy_is staged = staged_copied from to to_line (omega (arith, fits contents to may.placed.entry, may.placed.above)) staged
 
     -- ---- the begin of the copy
 
@@ -186,31 +210,17 @@ module _ {contents : Contents} {from to to_line : ℕ} {version : Version} (may 
         → IsTrue (counts contents.current stamp) → stamp < contents.current.cd → Keeps both image
     begun_keeps base image stamp keeps copied others begin counts_now low_stamp =
         record {
-          superblock = head.superblock;
-          has_record = head.recorded;
+          superblock = (head_kept keeps to may.placed.entry others).superblock;
+          has_record = (head_kept keeps to may.placed.entry others).recorded;
           versions = versions;
           entries = entries;
         }
       where
-        head : HasHead contents image
-        head = head_same keeps some_entry
-            (λ word is. others word (λ same. not_head to word may.placed.entry is (omega (arith, same)) (omega (arith, same))))
-
-        word_kept : (i k : ℕ) → k < 8 → (i ≡ to → 1 ≤ k) → image (entry_word i k) ≡ base (entry_word i k)
-        word_kept i k low later =
-            others (entry_word i k)
-            (λ same. let here : i ≡ to = omega (arith, low, same) in omega (arith, here, same, later here))
+        kept : (i k : ℕ) → k < 8 → (i ≡ to → 1 ≤ k) → image (entry_word i k) ≡ base (entry_word i k)
+        kept = word_kept keeps to may.placed.entry others
 
         left : (i : ℕ) → i < entries_of contents → i ≢ to → IsLeft contents.current contents.lines base image i
-        left i within other =
-            entry_left (keeps.entries i within) (word_kept i 0 (omega arith) (λ here. absurd (other here)))
-            (omega (arith, word_kept i 1 (omega arith) (λ here. omega arith), (keeps.entries i within).end))
-            (λ counted.
-            let entry = (keeps.entries i within).whole counted in (
-              word_kept i 1 (omega arith) (λ here. omega arith),
-              same_entry entry (λ k low high. word_kept i k high (λ here. omega (arith, low)))
-                  (λ word at. others word (λ same. omega (arith, same, at.low, entry.above, fits to may.placed.entry))),
-            ))
+        left = left_kept keeps to may.placed.entry others
 
         was : IsTrue (counts contents.current (image_of d.words (entry_word from 0))) × (version_in contents.current (image_of d.words) from ≡ version)
         was = held_begun keeps_now from version may.from_within may.held
@@ -221,15 +231,15 @@ module _ {contents : Contents} {from to to_line : ℕ} {version : Version} (may 
         copied_now : IsCopied (image_of d.words) image from to to_line
         copied_now =
             record {
-              end = word_kept to 1 (omega arith) (λ here. omega arith) ∙ copied.end;
-              position = word_kept to 2 (omega arith) (λ here. omega arith) ∙ copied.position;
-              first_line = word_kept to 3 (omega arith) (λ here. omega arith) ∙ copied.first_line;
-              count = word_kept to 4 (omega arith) (λ here. omega arith) ∙ copied.count;
-              kind = word_kept to 5 (omega arith) (λ here. omega arith) ∙ copied.kind;
-              lengths = word_kept to 6 (omega arith) (λ here. omega arith) ∙ copied.lengths;
-              value_length = word_kept to 7 (omega arith) (λ here. omega arith) ∙ copied.value_length;
+              end = kept to 1 (omega arith) (λ here. omega arith) ∙ copied.end;
+              position = kept to 2 (omega arith) (λ here. omega arith) ∙ copied.position;
+              first_line = kept to 3 (omega arith) (λ here. omega arith) ∙ copied.first_line;
+              count = kept to 4 (omega arith) (λ here. omega arith) ∙ copied.count;
+              kind = kept to 5 (omega arith) (λ here. omega arith) ∙ copied.kind;
+              lengths = kept to 6 (omega arith) (λ here. omega arith) ∙ copied.lengths;
+              value_length = kept to 7 (omega arith) (λ here. omega arith) ∙ copied.value_length;
               extent = λ j below.
-                  others (8 * to_line + j) (λ same. omega (arith, same, fits to may.placed.entry, may.placed.above)) ∙ copied.extent j below;
+                  others (8 * to_line + j) (λ same. omega (arith, same, fits contents to may.placed.entry, may.placed.above)) ∙ copied.extent j below;
             }
 
         counted_to : counts contents.current (image (entry_word to 0)) ≡ true
@@ -299,31 +309,17 @@ module _ {contents : Contents} {from to to_line : ℕ} {version : Version} (may 
       → image (entry_word from 0) ≡ 0 → Keeps moved image
   erased_keeps base image keeps others zeroed =
       record {
-        superblock = head.superblock;
-        has_record = head.recorded;
+        superblock = (head_kept keeps from may.from_within others).superblock;
+        has_record = (head_kept keeps from may.from_within others).recorded;
         versions = versions;
         entries = entries;
       }
     where
-      head : HasHead both image
-      head = head_same keeps some_entry
-          (λ word is. others word (λ same. not_head from word may.from_within is (omega (arith, same)) (omega (arith, same))))
-
-      word_kept : (i k : ℕ) → k < 8 → (i ≡ from → 1 ≤ k) → image (entry_word i k) ≡ base (entry_word i k)
-      word_kept i k low later =
-          others (entry_word i k)
-          (λ same. let here : i ≡ from = omega (arith, low, same) in omega (arith, here, same, later here))
+      kept : (i k : ℕ) → k < 8 → (i ≡ from → 1 ≤ k) → image (entry_word i k) ≡ base (entry_word i k)
+      kept = word_kept keeps from may.from_within others
 
       left : (i : ℕ) → i < entries_of contents → i ≢ from → IsLeft contents.current contents.lines base image i
-      left i within other =
-          entry_left (keeps.entries i within) (word_kept i 0 (omega arith) (λ here. absurd (other here)))
-          (omega (arith, word_kept i 1 (omega arith) (λ here. omega arith), (keeps.entries i within).end))
-          (λ counted.
-          let entry = (keeps.entries i within).whole counted in (
-            word_kept i 1 (omega arith) (λ here. omega arith),
-            same_entry entry (λ k low high. word_kept i k high (λ here. omega (arith, low)))
-                (λ word at. others word (λ same. omega (arith, same, at.low, entry.above, fits from may.from_within))),
-          ))
+      left = left_kept keeps from may.from_within others
 
       uncounted : counts contents.current (image (entry_word from 0)) ≡ false
       uncounted = ap (counts contents.current) zeroed
@@ -344,7 +340,7 @@ module _ {contents : Contents} {from to to_line : ℕ} {version : Version} (may 
       old_under =
           record {
             begin = omega (arith, zeroed, (keeps.entries from may.from_within).begin);
-            end = omega (arith, word_kept from 1 (omega arith) (λ here. omega arith), (keeps.entries from may.from_within).end);
+            end = omega (arith, kept from 1 (omega arith) (λ here. omega arith), (keeps.entries from may.from_within).end);
             whole = λ counted. absurd (both_ways (counts contents.current (image (entry_word from 0))) uncounted counted);
             position = λ counted. absurd (both_ways (counts contents.current (image (entry_word from 0))) uncounted counted);
           }

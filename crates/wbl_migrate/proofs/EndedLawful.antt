@@ -10,10 +10,7 @@ use Rattle.wbl_engine.proofs.LawfulLemmas.{some_version}
 use Rattle.wbl_engine.proofs.WithoutLemmas.{consistent_without, lawful_without}
 use Rattle.wbl_migrate.specs.Ended.{IsMovable, after_move, with_copy}
 use Rattle.wbl_migrate.proofs.EndedMaps.{apart, copied_at, copied_map, copied_other}
-
-other_side : (first lines first' lines' : ℕ) → AreApart first lines first' lines' → AreApart first' lines' first lines
-other_side first lines first' lines' (inl before) = inr before
-other_side first lines first' lines' (inr behind) = inl behind
+use Rattle.wbl_engine.proofs.GroupSteps.{flip_apart}
 
 module _ {contents : Contents} {from to to_line : ℕ} {version : Version} (may : IsMovable contents from to to_line version) where
   -- a version of the contents with both copies is the copy, or was there
@@ -46,7 +43,7 @@ module _ {contents : Contents} {from to to_line : ℕ} {version : Version} (may 
                   elim (copied_held j w is_w) [
                     | inl there ↦
                         subst (λ (x : Version). AreApart v.first_line v.lines x.first_line x.lines) (sym there.1)
-                        (other_side to_line version.lines v.first_line v.lines (may.unused.lines i v kept))
+                        (flip_apart to_line version.lines v.first_line v.lines (may.unused.lines i v kept))
                     | inr other ↦ are.apart i j v w differ kept other
                   ]
             ];

@@ -18,7 +18,8 @@ use Rattle.wbl_migrate.specs.Migrating.{GoesOnFrom, HasGapless, IsHalfwayImage, 
 use Rattle.wbl_migrate.specs.Stage.{IsMovable}
 use Rattle.wbl_migrate.specs.Steps.{Leaves}
 use Rattle.wbl_migrate.specs.Vacating.{StaysOldWith}
-use Rattle.wbl_migrate.proofs.Migratable.{IsTold, halfway_record, none_some}
+use Rattle.wbl_migrate.proofs.Migratable.{IsTold, halfway_record}
+use Rattle.wbl_migrate.proofs.Picks.{none_some}
 
 -- what is told of a cause, but for damage, is the cause
 pub told_cause : {cause told : Refusal} (x : Refusal) → ¬ (Damaged ≡ x) → IsTold cause told → told ≡ x → cause ≡ x
@@ -28,7 +29,7 @@ reopening_exhausts : (lines : ℕ) (image : Image) (q r : Record) (s : Keyspace)
     → RefusesReopening Version1 lines image q.role Exhausted → ExhaustsReopening r
 reopening_exhausts lines image q r s whole old refuses =
     elim refuses [
-      | inl (inl super) ↦ absurd (none_some Exhausted (sym whole ∙ super))
+      | inl (inl super) ↦ absurd (none_some (sym whole ∙ super))
       | inl (inr (inl none)) ↦ let is = none.0 in absurd (cc)
       | inl (inr (inr memory)) ↦ absurd (cc)
       | inr (inl role) ↦ let is = role.0 in absurd (cc)

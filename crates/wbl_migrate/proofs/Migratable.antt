@@ -1,5 +1,5 @@
 -- What each step of a migration leaves can be migrated on.
-use Rattle.std.proofs.Common.{◌≡◌, [], ◌⊎◌, Some, None, ℕ, refl, inl, inr, sym, ap, subst, ◌∙◌, arith}
+use Rattle.std.proofs.Common.{◌≡◌, [], ◌⊎◌, None, ℕ, refl, inl, inr, sym, ap, subst, ◌∙◌, arith}
 use Rattle.kv_types.specs.declared.refusal.Refusal.{Refusal}
 use Rattle.kv_types.specs.declared.refusal.Refusal.TheVariants.{Damaged, Exhausted, Fault, Full, Memory, WrongRole}
 use Rattle.kv_types.specs.Keyspace.{Keyspace}
@@ -21,6 +21,7 @@ use Rattle.wbl_migrate.specs.Migrating.{GoesOnFrom, HasGapless, IsHalfwayImage, 
 use Rattle.wbl_migrate.specs.Stage.{IsMovable, KeepsMap, in_layout}
 use Rattle.wbl_migrate.specs.Steps.{Leaves, IsHalfwayOrNew, renewed}
 use Rattle.wbl_migrate.proofs.MovableLemmas.{as_it_is}
+use Rattle.wbl_migrate.proofs.Picks.{none_some}
 
 -- ---- the record
 
@@ -38,16 +39,8 @@ one_record lines q r image is was = HasRecord-unique lines image q r is.lawful.f
 pub old_record : (lines : ℕ) (r q : Record) (s : Keyspace) (image : Image) → IsOldImage lines r s image → IsCurrent lines image q → q ≡ r
 old_record lines r q s image old is = one_record lines q r image is old.undamaged.current
 
-pub halfway_is : (lines : ℕ) (r : Record) (s : Keyspace) (image : Image) → IsHalfwayImage lines r s image → HasGapless lines image r
-halfway_is lines r s image halfway = record { undamaged = halfway.is.undamaged; gapless = halfway.gapless }
-
 pub halfway_record : (lines : ℕ) (r q : Record) (s : Keyspace) (image : Image) → IsHalfwayImage lines r s image → HasGapless lines image q → q ≡ r
 halfway_record lines r q s image halfway is = one_record lines q r image is.undamaged.current halfway.is.undamaged.current
-
--- where its record has a gap, it has none without
-pub with_gap : (lines : ℕ) (q r : Record) (image : Image) → IsUndamaged lines q image → ¬ (q.gaps.items ≡ []) → ¬ HasGapless lines image r
-with_gap lines q r image is gap other =
-    gap (subst (λ (x : Record). x.gaps.items ≡ []) (sym (one_record lines q r image is.current other.undamaged.current)) other.gapless)
 
 -- ---- the map
 
@@ -202,9 +195,6 @@ pub record IsTold (cause told : Refusal) : Type 0 where
 told_as : {cause told : Refusal} (x : Refusal) → IsTold cause told → ¬ (x ≡ WrongRole) → cause ≡ x → told ≡ x
 told_as x is differ same = elim is.other [ inl wrong ↦ absurd (differ (sym same ∙ wrong)) | inr told ↦ told ∙ same ]
 
-pub none_some : (refusal : Refusal) → None ≡ Some refusal → ⊥
-none_some refusal is = cc
-
 module _ {lines : ℕ} {image : Image} {q : Record} {cause told : Refusal} {X : Type 0} {left device : X}
     (whole : super_refusal Version1 lines image ≡ None) (current : IsCurrent lines image q) (is : IsTold cause told)
     (refuses : (RefusesReopening Version1 lines image q.role cause × (left ≡ device))
@@ -219,7 +209,7 @@ module _ {lines : ℕ} {image : Image} {q : Record} {cause told : Refusal} {X : 
   pub told_damaged : told ≡ Damaged → IsDamaged
   told_damaged damaged =
       elim refuses [
-        | inl (inl (inl super), stays) ↦ absurd (none_some cause (sym whole ∙ super))
+        | inl (inl (inl super), stays) ↦ absurd (none_some (sym whole ∙ super))
         | inl (inl (inr (inl none)), stays) ↦ (stays, λ r s old. none.1 r old.undamaged)
         | inl (inl (inr (inr memory)), stays) ↦ not_damaged Memory (λ e. cc) (λ e. cc) memory damaged
         | inl (inr (inl role), stays) ↦

@@ -22,6 +22,8 @@ use Rattle.wbl_migrate.specs.declared.moving.Place.{Place}
 use Rattle.wbl_migrate.specs.Moving.{HasMoved, HoldsBy, IsReady, IsStep, MovesLive, version_read}
 use Rattle.wbl_migrate.proofs.MovedLemmas.{IsMove, all_puts_are, differ, ended_there, from_within, made, made_is, made_kept, made_there}
 use Rattle.wbl_migrate.proofs.StepLemmas.{no_step, ok_no_error}
+use Rattle.wbl_engine.proofs.CommitAndFree.{same_is}
+use Rattle.wbl_migrate.proofs.Picks.{none_some}
 
 -- ---- live versions that lie elsewhere
 
@@ -53,10 +55,6 @@ moves_then a b c first second =
       lawful = λ lawful. second.lawful (first.lawful lawful);
     }
 
--- contents that say the same of each entry are one
-same_is : (old new : Contents) → Same old new → new ≡ old
-same_is old new same = grind arith
-
 listed_one : (from : EntryNo) (i : ℕ) → IsTrue (is_listed i (from ∷ [])) → i ≡ from.0
 listed_one from i listed =
     elim (or_cases (nat_eq i from.0) false listed) [
@@ -69,9 +67,6 @@ not_listed from i other = ap (λ (b : Bool). b || false) (ne_eqb i from.0 other)
 
 listed_itself : (from : EntryNo) → is_listed from.0 (from ∷ []) ≡ true
 listed_itself from = or_left (nat_eq from.0 from.0) false (eq-eqb from.0 from.0 refl)
-
-none_some : {X : Type 0} {x : X} → None ≡ Some x → ⊥
-none_some e = cc
 
 module _ {a : Contents} {from : EntryNo} {entry : Entry} {place : Place} {part : Part} (move : IsMove a from entry place part) (asked : IsRelocation a (part ∷ [])) where
   abbrev again : Contents

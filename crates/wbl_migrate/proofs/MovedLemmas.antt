@@ -28,9 +28,7 @@ use Rattle.wbl_engine.proofs.LawfulLemmas.{lawful_distinct}
 use Rattle.wbl_engine.proofs.RelocatingLemmas.{relocates_one}
 use Rattle.wbl_migrate.specs.declared.moving.Place.{Place}
 use Rattle.wbl_migrate.specs.Moving.{IsRoomFor, put_again, version_read}
-
-none_some : {X : Type 0} {x : X} → None ≡ Some x → ⊥
-none_some e = cc
+use Rattle.wbl_migrate.proofs.Picks.{none_some}
 
 -- ---- what a put ends
 

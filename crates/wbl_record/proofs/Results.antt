@@ -5,10 +5,6 @@ pub on_err_from : {T E P : Type 0} (r : Result T E) → P → OnErr r P
 on_err_from (Ok x) p = tt
 on_err_from (Err e) p = p
 
-pub on_ok_from : {T E P : Type 0} (r : Result T E) → P → OnOk r P
-on_ok_from (Ok x) p = p
-on_ok_from (Err e) p = tt
-
 -- what holds on either side holds
 pub on_both : {T E P : Type 0} (r : Result T E) → OnOk r P → OnErr r P → P
 on_both (Ok x) ok err = ok

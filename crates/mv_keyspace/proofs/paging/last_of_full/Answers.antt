@@ -1,5 +1,6 @@
 use Rattle.std.proofs.Common.{◌-◌, length, arith}
-use Rattle.mv_keyspace.proofs.PagingLemmas.{all-fit, last-split, some-over}
+use Rattle.mv_keyspace.proofs.PagingLemmas.{last-split}
+use Rattle.mv_keyspace.proofs.PageSizes.{all-fit, some-over}
 use Rattle.mv_keyspace.proofs.paging.last_of_full.Goals as goal
 
 pub returns-then-count_fitting-rows : goal.returns-then-count_fitting-rows

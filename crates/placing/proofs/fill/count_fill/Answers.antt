@@ -1,7 +1,6 @@
-use Rattle.std.proofs.Common.{◌≡◌, length, ap, ◌∙◌, sym}
+use Rattle.std.proofs.Common.{length, ap, ◌∙◌}
 use Rattle.kv_types.specs.Keyspace.{Keyspace}
 use Rattle.cmd_core.specs.Contents.{keys_of}
-use Rattle.placing.specs.declared.fill.Fill.{Fill}
 use Rattle.placing.proofs.fill.count_fill.Goals as goal
 
 pub returns : goal.returns

@@ -1,6 +1,7 @@
 use Rattle.std.proofs.Common.{◌≡◌, ◌-◌, ◌^◌, ◌<◌, FitsSigned, pos, w64, to_z, to_z-of_z, lit<, arith}
 use Rattle.kv_types.specs.declared.item.ProtocolFault.TheVariants.{ExpectedLineEnd}
-use Rattle.resp_codec.proofs.ReplyTakes.{number_fits, integer_read}
+use Rattle.resp_codec.proofs.ReplyTakes.{number_fits}
+use Rattle.resp_codec.proofs.ReplyReadBack.{integer_read}
 use Rattle.resp_codec.proofs.reply_heads.integer_at.Goals as goal
 
 pub overflow_cast-result : goal.overflow_cast-result

@@ -4,7 +4,8 @@ use Rattle.model.specs.Image.{entries_of_lines}
 use Rattle.model.proofs.GroupsLemmas.{placed_in_more}
 use Rattle.model.proofs.LayoutLemmas.{entries_fit}
 use Rattle.wbl_record.proofs.Results.{on_both}
-use Rattle.wbl_engine.proofs.CopyStaging.{is_part, part_half, part_moments, part_same, part_staged}
+use Rattle.wbl_engine.proofs.CopyStaging.{part_half, part_moments, part_same, part_staged}
+use Rattle.wbl_engine.proofs.CopyImages.{is_part}
 use Rattle.wbl_engine.proofs.copying.stage_part.Goals as goal
 
 pub stage_durably-requires-clause-placed : goal.stage_durably-requires-clause-placed

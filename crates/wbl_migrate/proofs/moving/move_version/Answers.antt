@@ -16,7 +16,7 @@ use Rattle.wbl_migrate.proofs.MoveSteps.{mid_ended, moved_has, moved_step, moves
 use Rattle.wbl_migrate.proofs.StepLemmas.{no_step, ok_no_error}
 use Rattle.wbl_migrate.proofs.moving.move_version.Given.{Over}
 use Rattle.wbl_migrate.proofs.moving.move_version.Goals as goal
-use Rattle.wbl_migrate.proofs.moving.move_version.Goals.{After-deref, After-free_unraised, After-relocate}
+use Rattle.wbl_migrate.proofs.moving.move_version.Goals.{After-deref, After-relocate}
 
 pub returns-in_err-part-clause-step : goal.returns-in_err-part-clause-step
 returns-in_err-part-clause-step g c =

@@ -1,7 +1,7 @@
 use Rattle.std.proofs.Common.{◌≡◌, ◌++◌, Some, slice_set, rules}
 use Rattle.multi_watch.specs.Watchers.{AddsAll, RemovesAll}
 use Rattle.multi_watch.specs.Sessions.{session_at, Moves}
-use Rattle.multi_watch.proofs.SessionsLemmas.{agrees_without, agrees_with, agrees_unchanged, moves_set, removed_again}
+use Rattle.multi_watch.proofs.SessionsLemmas.{agrees_without, agrees_with, agrees_written, moves_set, removed_again}
 use Rattle.multi_watch.proofs.sessions.Sessions.watch_fresh.Goals as goal
 
 pub invariant_of-self : goal.invariant_of-self
@@ -20,13 +20,10 @@ invariant_of-self-in-Err c =
     let old = c.self.inside.sessions.slots in
     let number = c.args.number.0 in
     let fresh = c.args.fresh.now in
-    let now = slice_set old number (Some c.watch.new.self) in
     let adds : AddsAll table fresh number with_them = search rules in
     let removes : RemovesAll with_them fresh number left = search rules in
-    let moves : Moves old number (Some c.watch.new.self) now = moves_set old number c.index_mut.result.now c.watch.new.self (search rules) in
-    let same : c.watch.new.self.watched ≡ (session_at old number).watched = search rules in
-    agrees_unchanged left left old now number (Some c.watch.new.self)
-    (agrees_without table left old fresh number c.self.invariant (search rules) (removed_again table with_them left fresh number adds removes)) moves same
+    agrees_written left old number c.index_mut.result.now c.watch.new.self
+    (agrees_without table left old fresh number c.self.invariant (search rules) (removed_again table with_them left fresh number adds removes)) (search rules) (search rules)
 
 pub invariant_of-self-in_default : goal.invariant_of-self-in_default
 invariant_of-self-in_default c =

@@ -1,7 +1,7 @@
 use Rattle.std.proofs.Common.{[], ◌∷◌, sym, ap, ap₂, ◌∙◌}
 use Rattle.mv_keyspace.specs.Paging.{room_left, room_less}
 use Rattle.mv_keyspace.specs.Row.{cell_of_row, table_of}
-use Rattle.mv_keyspace.proofs.PagingLemmas.{room-less}
+use Rattle.mv_keyspace.proofs.PageSizes.{room-less}
 use Rattle.mv_keyspace.proofs.SlotLemmas.{table_of-append}
 use Rattle.mv_keyspace.proofs.page_rows.PageRows.push.Goals as goal
 

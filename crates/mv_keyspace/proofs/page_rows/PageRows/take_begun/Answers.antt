@@ -1,7 +1,7 @@
 use Rattle.std.proofs.Common.{drop, sym, ◌∙◌}
 use Rattle.mv_keyspace.specs.Row.{table_of}
 use Rattle.mv_keyspace.specs.Versions.{begun_at}
-use Rattle.mv_keyspace.proofs.PagingLemmas.{filled-full}
+use Rattle.mv_keyspace.proofs.PageSizes.{filled-full}
 use Rattle.mv_keyspace.proofs.page_rows.PageRows.take_begun.Goals as goal
 
 pub returns-then-is_full-clause-rows : goal.returns-then-is_full-clause-rows

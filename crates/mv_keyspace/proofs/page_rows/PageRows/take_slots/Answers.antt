@@ -5,7 +5,8 @@ use Rattle.mv_keyspace.specs.Row.{table_of}
 use Rattle.mv_keyspace.specs.Slot.{rows_of}
 use Rattle.mv_keyspace.specs.Slots.{rows_in}
 use Rattle.mv_keyspace.specs.Versions.{begun_at}
-use Rattle.mv_keyspace.proofs.PagingLemmas.{filled-full, filled-step}
+use Rattle.mv_keyspace.proofs.PagingLemmas.{filled-step}
+use Rattle.mv_keyspace.proofs.PageSizes.{filled-full}
 use Rattle.mv_keyspace.proofs.page_rows.PageRows.take_slots.Goals as goal
 
 pub returns-then-is_full-clause-rows : goal.returns-then-is_full-clause-rows

@@ -1,6 +1,7 @@
 use Rattle.std.proofs.lemmas.Grind.{merely}
 use Rattle.pmem_file.specs.Call.{read_of, calls_of}
-use Rattle.pmem_file.proofs.FollowingLemmas.{Copies-read, Keeps-begun, blank-begun}
+use Rattle.pmem_file.proofs.FollowingLemmas.{Keeps-begun, blank-begun}
+use Rattle.pmem_file.proofs.CopiesLemmas.{Copies-read}
 use Rattle.pmem_file.proofs.journaled.JournaledFile.new.Goals as goal
 
 pub invariant_of-result-clause-copies : goal.invariant_of-result-clause-copies

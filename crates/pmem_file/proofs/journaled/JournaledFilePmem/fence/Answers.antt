@@ -1,12 +1,11 @@
-use Rattle.std.proofs.Common.{◌≡◌, true, false, not, length, refl, inl, inr, sym, subst, ap, ◌∙◌, arith}
-use Rattle.std.proofs.lemmas.Bool.{cases_Bool, false_from_ne_true, true≢false}
+use Rattle.std.proofs.Common.{◌≡◌, true, false, not, length, refl, sym, ap, ◌∙◌, arith}
+use Rattle.std.proofs.lemmas.Bool.{false_from_ne_true, true≢false}
 use Rattle.std.proofs.Math.Logic.{∥∥₁_map}
 use Rattle.pmem.specs.History.{words_of, past_of}
-use Rattle.pmem_file.specs.declared.file_journal.FileJournal.{FileJournal}
 use Rattle.pmem_file.specs.declared.logged_file.LoggedFile.{LoggedFile}
 use Rattle.pmem_file.specs.Call.{read_of, calls_of, has_failed}
-use Rattle.pmem_file.specs.Following.{Keeps}
-use Rattle.pmem_file.proofs.FollowingLemmas.{Copies-fenced, Copies-noted, Keeps-moment, Keeps-fenced, Keeps-stopped, blank-step}
+use Rattle.pmem_file.proofs.FollowingLemmas.{Keeps-moment, Keeps-fenced, Keeps-undone, blank-step}
+use Rattle.pmem_file.proofs.CopiesLemmas.{Copies-fenced, Copies-noted}
 use Rattle.pmem_file.proofs.journaled.JournaledFilePmem.fence.Goals as goal
 
 pub invariant_of-self-clause-copies : goal.invariant_of-self-clause-copies
@@ -59,22 +58,11 @@ invariant_of-self-else-order-clause-kept c =
     let past = past_of device.history in
     let t = length (past_of device.synced.value) in
     let read = read_of device.file.calls in
-    let calls = calls_of device.file.calls in
-    let after = calls_of c.order.new.file.calls in
-    let failed : has_failed after ≡ true = c.order.ensures.failed ∙ ap not c.if-order.false in
-    let stop : Keeps device.journal read calls words past t → Keeps c.order.new.self read after words past t =
-    λ k.
-    elim (cases_Bool (has_failed calls)) [
-      | inl had ↦
-          subst (λ (j : FileJournal). Keeps j read after words past t) (sym (c.order.ensures.same had))
-          (subst (λ (f : LoggedFile). Keeps device.journal read (calls_of f.calls) words past t) (sym (c.order.ensures.lasting had)) k)
-      | inr fine ↦
-          Keeps-stopped device.journal c.order.new.self read calls after words past t device.words device.notes fine failed c.order.ensures.shape device.copies
-          (c.order.ensures.stopped fine c.if-order.false) k
-    ] in
     ∥∥₁_map device.kept (λ k.
     rw (c.failed.ensures.words, c.order.ensures.read)
-    (Keeps-moment c.order.new.self read after words words past (past_of c.failed.new.self) t c.failed.ensures.past device.reached (λ image is. is) (stop k)))
+    (Keeps-moment c.order.new.self read (calls_of c.order.new.file.calls) words words past (past_of c.failed.new.self) t c.failed.ensures.past device.reached (λ image is. is)
+    (Keeps-undone device.journal c.order.new.self device.file c.order.new.file read words past t device.words device.notes c.order.ensures.lasting c.order.ensures.same
+    (c.order.ensures.failed ∙ ap not c.if-order.false) c.order.ensures.shape device.copies (λ fine. c.order.ensures.stopped fine c.if-order.false) k)))
 
 pub invariant_of-self-else-order-clause-reached : goal.invariant_of-self-else-order-clause-reached
 invariant_of-self-else-order-clause-reached c = omega (arith, ap length c.failed.ensures.past, c.args.self.now.reached)

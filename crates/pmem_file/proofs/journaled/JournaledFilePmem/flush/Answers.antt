@@ -3,7 +3,8 @@ use Rattle.std.proofs.Math.Logic.{∥∥₁_map}
 use Rattle.pmem.specs.History.{words_of, past_of}
 use Rattle.pmem.proofs.Staging.{newest-flush_at}
 use Rattle.pmem_file.specs.Call.{read_of, calls_of}
-use Rattle.pmem_file.proofs.FollowingLemmas.{Copies-flushed, Keeps-moment, flushed-grows, blank-step}
+use Rattle.pmem_file.proofs.FollowingLemmas.{Keeps-moment, flushed-grows, blank-step}
+use Rattle.pmem_file.proofs.CopiesLemmas.{Copies-flushed}
 use Rattle.pmem_file.proofs.journaled.JournaledFilePmem.flush.Goals as goal
 
 pub invariant_of-self-clause-copies : goal.invariant_of-self-clause-copies

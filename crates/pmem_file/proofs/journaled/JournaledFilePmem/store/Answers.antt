@@ -2,7 +2,8 @@ use Rattle.std.proofs.Common.{◌<◌, length, ap, arith}
 use Rattle.std.proofs.Math.Logic.{∥∥₁_map}
 use Rattle.pmem.specs.History.{words_of, past_of}
 use Rattle.pmem_file.specs.Call.{read_of, calls_of}
-use Rattle.pmem_file.proofs.FollowingLemmas.{Copies-stored, Keeps-moment, stored-grows, blank-step, blank-stored}
+use Rattle.pmem_file.proofs.FollowingLemmas.{Keeps-moment, stored-grows, blank-step, blank-stored}
+use Rattle.pmem_file.proofs.CopiesLemmas.{Copies-stored}
 use Rattle.pmem_file.proofs.journaled.JournaledFilePmem.store.Goals as goal
 
 pub invariant_of-self-clause-copies : goal.invariant_of-self-clause-copies

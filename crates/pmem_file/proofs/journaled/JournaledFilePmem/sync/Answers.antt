@@ -1,13 +1,11 @@
-use Rattle.std.proofs.Common.{◌≡◌, true, false, not, length, inl, inr, sym, subst, ap, ◌∙◌, arith}
-use Rattle.std.proofs.lemmas.Bool.{cases_Bool, false_from_ne_true, true≢false}
+use Rattle.std.proofs.Common.{◌≡◌, true, false, not, length, sym, ap, ◌∙◌, arith}
+use Rattle.std.proofs.lemmas.Bool.{false_from_ne_true, true≢false}
 use Rattle.std.proofs.Math.Logic.{∥∥₁_map}
 use Rattle.journal.specs.declared.shape.Head.{Head}
 use Rattle.pmem.specs.History.{words_of, past_of}
-use Rattle.pmem_file.specs.declared.file_journal.FileJournal.{FileJournal}
 use Rattle.pmem_file.specs.declared.logged_file.LoggedFile.{LoggedFile}
 use Rattle.pmem_file.specs.Call.{read_of, calls_of, has_failed}
-use Rattle.pmem_file.specs.Following.{Keeps}
-use Rattle.pmem_file.proofs.FollowingLemmas.{Keeps-synced, Keeps-stopped}
+use Rattle.pmem_file.proofs.FollowingLemmas.{Keeps-synced, Keeps-undone}
 use Rattle.pmem_file.proofs.journaled.JournaledFilePmem.sync.Goals as goal
 
 pub invariant_of-self-clause-shaped : goal.invariant_of-self-clause-shaped
@@ -49,20 +47,9 @@ invariant_of-self-else-sync-clause-kept c =
     let past = past_of device.history in
     let t = length (past_of device.synced.value) in
     let read = read_of device.file.calls in
-    let calls = calls_of device.file.calls in
-    let after = calls_of c.sync.new.file.calls in
-    let failed : has_failed after ≡ true = c.sync.ensures.failed ∙ ap not c.if-sync.false in
-    let stop : Keeps device.journal read calls words past t → Keeps c.sync.new.self read after words past t =
-    λ k.
-    elim (cases_Bool (has_failed calls)) [
-      | inl had ↦
-          subst (λ (j : FileJournal). Keeps j read after words past t) (sym (c.sync.ensures.same c.if-sync.false))
-          (subst (λ (f : LoggedFile). Keeps device.journal read (calls_of f.calls) words past t) (sym (c.sync.ensures.lasting had)) k)
-      | inr fine ↦
-          Keeps-stopped device.journal c.sync.new.self read calls after words past t device.words device.notes fine failed (ap (λ (h : Head). h.shape) c.sync.ensures.head) device.copies
-          (c.sync.ensures.stopped device.words fine c.if-sync.false) k
-    ] in
-    ∥∥₁_map device.kept (λ k. rw (c.unsynced.ensures.words, c.unsynced.ensures.past, c.sync.ensures.read) (stop k))
+    ∥∥₁_map device.kept (λ k. rw (c.unsynced.ensures.words, c.unsynced.ensures.past, c.sync.ensures.read) (Keeps-undone device.journal c.sync.new.self device.file c.sync.new.file read words past t device.words device.notes
+    c.sync.ensures.lasting (λ had. c.sync.ensures.same c.if-sync.false) (c.sync.ensures.failed ∙ ap not c.if-sync.false) (ap (λ (h : Head). h.shape) c.sync.ensures.head) device.copies
+    (λ fine. c.sync.ensures.stopped device.words fine c.if-sync.false) k))
 
 pub invariant_of-self-else-sync-clause-reached : goal.invariant_of-self-else-sync-clause-reached
 invariant_of-self-else-sync-clause-reached c = rw c.unsynced.ensures.past c.args.self.now.reached

@@ -1,12 +1,10 @@
-use Rattle.std.proofs.Common.{◌≡◌, Bool, true, false, inl, inr, length, refl, sym, ap, ◌∙◌}
+use Rattle.std.proofs.Common.{Bool, true, false, inl, inr, length, refl, sym, ap, ◌∙◌}
 use Rattle.std.proofs.lemmas.Bool.{cases_Bool}
-use Rattle.pmem.specs.Device.{moment}
-use Rattle.wbl_engine.specs.AtRest.{IsAtRest, at_rest_prop, synced_prop}
-use Rattle.wbl_engine.specs.Copying.{IsHalf, half_prop, idle, staged_of}
+use Rattle.wbl_engine.specs.Copying.{idle, staged_of}
 use Rattle.wbl_engine.proofs.ClearingLemmas.{clear_none}
 use Rattle.wbl_engine.proofs.GapLemmas.{some_gap}
 use Rattle.wbl_engine.proofs.HalfLemmas.{sound_keeps, sound_quiet}
-use Rattle.wbl_engine.proofs.SyncedContents.{same_of_three}
+use Rattle.wbl_engine.proofs.SyncedContents.{same_engine}
 use Rattle.wbl_engine.proofs.engine.WblEngineDurable.clear_gap.Goals as goal
 
 pub returns-then-has_no_gap-clause-durable : goal.returns-then-has_no_gap-clause-durable
@@ -66,13 +64,8 @@ returns-then-has_no_gap-clause-none g c sound none =
     let self = c.args.self.now in (
       refl,
       c.none.ensures.entries,
-      (same_of_three
-          (λ (x : self.faulted ≡ false → self.copying ≡ false → IsAtRest self.current (g.P.Pmem.state self.device))
-          (y : self.faulted ≡ false → self.copying ≡ true → IsHalf self.current (g.P.Pmem.state self.device))
-          (z : self.faulted ≡ false → g.P.Pmem.floor self.device ≡ moment (g.P.Pmem.state self.device)). record self { at_rest = x; half = y; synced = z })
-          _ self.at_rest _ self.half _ self.synced (at_rest_prop self.faulted self.copying self.current (g.P.Pmem.state self.device))
-          (half_prop self.faulted self.copying self.current (g.P.Pmem.state self.device))
-          (synced_prop self.faulted (g.P.Pmem.floor self.device) (moment (g.P.Pmem.state self.device)))),
+      (same_engine self.faulted self.copying self.current (g.P.Pmem.state self.device) (g.P.Pmem.floor self.device) (λ x y z. record self { at_rest = x; half = y; synced = z })
+          _ self.at_rest _ self.half _ self.synced),
     )
 
 pub returns-then-is_last-clause-exhausted : goal.returns-then-is_last-clause-exhausted
@@ -80,22 +73,12 @@ returns-then-is_last-clause-exhausted g c is_exhausted =
     let self = c.args.self.now in (
       some_gap (length self.current.gaps.items) c.has_no_gap.result c.has_no_gap.ensures c.if-has_no_gap.false,
       c.is_last.ensures.0 c.if-is_last.true,
-      (same_of_three
-          (λ (x : self.faulted ≡ false → self.copying ≡ false → IsAtRest self.current (g.P.Pmem.state self.device))
-          (y : self.faulted ≡ false → self.copying ≡ true → IsHalf self.current (g.P.Pmem.state self.device))
-          (z : self.faulted ≡ false → g.P.Pmem.floor self.device ≡ moment (g.P.Pmem.state self.device)). record self { at_rest = x; half = y; synced = z })
-          _ self.at_rest _ self.half _ self.synced (at_rest_prop self.faulted self.copying self.current (g.P.Pmem.state self.device))
-          (half_prop self.faulted self.copying self.current (g.P.Pmem.state self.device))
-          (synced_prop self.faulted (g.P.Pmem.floor self.device) (moment (g.P.Pmem.state self.device)))),
+      (same_engine self.faulted self.copying self.current (g.P.Pmem.state self.device) (g.P.Pmem.floor self.device) (λ x y z. record self { at_rest = x; half = y; synced = z })
+          _ self.at_rest _ self.half _ self.synced),
     )
 
 pub returns-in_err-stamped-clause-memory : goal.returns-in_err-stamped-clause-memory
 returns-in_err-stamped-clause-memory g c is_memory =
     let self = c.args.self.now in
-    (same_of_three
-    (λ (x : self.faulted ≡ false → self.copying ≡ false → IsAtRest self.current (g.P.Pmem.state self.device))
-    (y : self.faulted ≡ false → self.copying ≡ true → IsHalf self.current (g.P.Pmem.state self.device))
-    (z : self.faulted ≡ false → g.P.Pmem.floor self.device ≡ moment (g.P.Pmem.state self.device)). record self { at_rest = x; half = y; synced = z })
-    _ self.at_rest _ self.half _ self.synced (at_rest_prop self.faulted self.copying self.current (g.P.Pmem.state self.device))
-    (half_prop self.faulted self.copying self.current (g.P.Pmem.state self.device))
-    (synced_prop self.faulted (g.P.Pmem.floor self.device) (moment (g.P.Pmem.state self.device))))
+    (same_engine self.faulted self.copying self.current (g.P.Pmem.state self.device) (g.P.Pmem.floor self.device) (λ x y z. record self { at_rest = x; half = y; synced = z })
+    _ self.at_rest _ self.half _ self.synced)

@@ -1,4 +1,4 @@
-use Rattle.std.proofs.Common.{◌≡◌, ℕ, true, inl, ap, subst, sym}
+use Rattle.std.proofs.Common.{◌≡◌, ℕ, true, false, inl, ap, subst, sym}
 use Rattle.pmem.specs.Runs.{LeavesOnly}
 use Rattle.pmem.proofs.Leaving.{none_leaves}
 use Rattle.model.specs.declared.record.Record.{Record}
@@ -8,8 +8,10 @@ use Rattle.wbl_engine.specs.Contents.{Same}
 use Rattle.wbl_engine.specs.Copying.{IsCopied, after_copy, staged_of}
 use Rattle.wbl_engine.proofs.Committing.{KeepsEither}
 use Rattle.wbl_engine.proofs.Erased.{rest_keeps}
-use Rattle.wbl_engine.proofs.HalfLemmas.{sound_half, sound_keeps, sound_staged}
+use Rattle.wbl_engine.proofs.HalfLemmas.{sound_half, sound_keeps, staged_same}
 use Rattle.wbl_engine.proofs.engine.WblEngineDurable.commit_staged.Goals as goal
+use Rattle.wbl_engine.proofs.engine.WblEngineDurable.commit_staged.Given.{Over}
+use Rattle.wbl_engine.proofs.engine.WblEngineDurable.commit_staged.Goals.{After-end_copy}
 
 pub returns-in_default-clause-moments : goal.returns-in_default-clause-moments
 returns-in_default-clause-moments g c sound =
@@ -28,8 +30,7 @@ pub end_copy-requires-clause-asked : goal.end_copy-requires-clause-asked
 end_copy-requires-clause-asked g c =
     let self = c.args.self.now in
     let d = g.P.Pmem.state self.device in
-    let same : staged_of self.copying self.current d ≡ staged_of true self.current d =
-    λ j i. sound_staged self.copying (self.at_rest c.if-self.false) (self.half c.if-self.false) i j in
+    let same = sym (staged_same self.copying (self.at_rest c.if-self.false) (self.half c.if-self.false)) in
     subst (λ (position : ℕ). IsCopied (contents_of self.current d) (staged_of true self.current d) position)
     (sym (ap (λ (q : Record). q.position) c.in-Some.ensures.next))
     (subst (λ (staged : Versions). IsCopied (contents_of self.current d) staged c.args.position) same c.requires)
@@ -38,8 +39,7 @@ pub returns-clause-moved : goal.returns-clause-moved
 returns-clause-moved g c =
     let self = c.args.self.now in
     let d = g.P.Pmem.state self.device in
-    let same : staged_of true self.current d ≡ staged_of self.copying self.current d =
-    λ j i. sym (sound_staged self.copying (self.at_rest c.if-self.false) (self.half c.if-self.false) i) j in
+    let same = staged_same self.copying (self.at_rest c.if-self.false) (self.half c.if-self.false) in
     subst
     (λ (staged : Versions). Same (after_copy (contents_of self.current d) staged c.args.position) (contents_of c.in-Some.next (g.P.Pmem.state c.end_copy.new.device)))
     same
@@ -51,26 +51,22 @@ returns-clause-moved g c =
 pub returns-clause-durable : goal.returns-clause-durable
 returns-clause-durable g c = rest_keeps c.in-Some.next (g.P.Pmem.state c.end_copy.new.device) c.in-Ok.ensures.rest
 
-pub returns-clause-moments : goal.returns-clause-moments
-returns-clause-moments g c sound =
+moments : (g : Over) (c : After-end_copy g) → c.args.self.now.faulted ≡ false → LeavesOnly (g.P.Pmem.state c.args.self.now.device) (g.P.Pmem.state c.end_copy.new.device)
+    (KeepsEither (contents_of c.args.self.now.current (g.P.Pmem.state c.args.self.now.device))
+    (after_copy (contents_of c.args.self.now.current (g.P.Pmem.state c.args.self.now.device))
+    (staged_of c.args.self.now.copying c.args.self.now.current (g.P.Pmem.state c.args.self.now.device)) c.args.position))
+moments g c sound =
     let self = c.args.self.now in
     let d = g.P.Pmem.state self.device in
     let old = contents_of self.current d in
-    let same : staged_of true self.current d ≡ staged_of self.copying self.current d =
-    λ j i. sym (sound_staged self.copying (self.at_rest sound) (self.half sound) i) j in
-    subst (λ (staged : Versions). LeavesOnly d (g.P.Pmem.state c.end_copy.new.device) (KeepsEither old (after_copy old staged c.args.position))) same
+    subst (λ (staged : Versions). LeavesOnly d (g.P.Pmem.state c.end_copy.new.device) (KeepsEither old (after_copy old staged c.args.position)))
+    (staged_same self.copying (self.at_rest sound) (self.half sound))
     (subst
     (λ (position : ℕ). LeavesOnly d (g.P.Pmem.state c.end_copy.new.device) (KeepsEither old (after_copy old (staged_of true self.current d) position)))
     (ap (λ (q : Record). q.position) c.in-Some.ensures.next) c.end_copy.ensures.moments)
 
+pub returns-clause-moments : goal.returns-clause-moments
+returns-clause-moments g c sound = moments g (goal.at.returns-clause-moments g c).After-end_copy sound
+
 pub returns-in_default-end_copy-clause-moments : goal.returns-in_default-end_copy-clause-moments
-returns-in_default-end_copy-clause-moments g c sound =
-    let self = c.args.self.now in
-    let d = g.P.Pmem.state self.device in
-    let old = contents_of self.current d in
-    let same : staged_of true self.current d ≡ staged_of self.copying self.current d =
-    λ j i. sym (sound_staged self.copying (self.at_rest sound) (self.half sound) i) j in
-    subst (λ (staged : Versions). LeavesOnly d (g.P.Pmem.state c.end_copy.new.device) (KeepsEither old (after_copy old staged c.args.position))) same
-    (subst
-    (λ (position : ℕ). LeavesOnly d (g.P.Pmem.state c.end_copy.new.device) (KeepsEither old (after_copy old (staged_of true self.current d) position)))
-    (ap (λ (q : Record). q.position) c.in-Some.ensures.next) c.end_copy.ensures.moments)
+returns-in_default-end_copy-clause-moments g c sound = moments g (goal.at.returns-in_default-end_copy-clause-moments g c).After-end_copy sound

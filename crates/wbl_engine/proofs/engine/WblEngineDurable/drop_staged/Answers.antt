@@ -1,13 +1,12 @@
-use Rattle.std.proofs.Common.{◌≡◌, true, false}
-use Rattle.pmem.specs.Device.{moment}
+use Rattle.std.proofs.Common.{true, false}
 use Rattle.pmem.proofs.Leaving.{none_leaves}
-use Rattle.wbl_engine.specs.AtRest.{IsAtRest, at_rest_prop, contents_of, synced_prop}
+use Rattle.wbl_engine.specs.AtRest.{contents_of}
 use Rattle.wbl_engine.specs.Contents.{Keeps}
-use Rattle.wbl_engine.specs.Copying.{IsHalf, half_prop, idle, staged_of}
+use Rattle.wbl_engine.specs.Copying.{idle, staged_of}
 use Rattle.wbl_engine.proofs.CopyDropping.{drops_none}
 use Rattle.wbl_engine.proofs.Erased.{rest_keeps}
 use Rattle.wbl_engine.proofs.HalfLemmas.{sound_keeps}
-use Rattle.wbl_engine.proofs.SyncedContents.{same_of_three}
+use Rattle.wbl_engine.proofs.SyncedContents.{same_engine}
 use Rattle.wbl_engine.proofs.engine.WblEngineDurable.drop_staged.Goals as goal
 
 pub returns-then-not-self-clause-freed : goal.returns-then-not-self-clause-freed
@@ -31,13 +30,8 @@ returns-then-not-self-clause-moments g c sound =
 pub returns-in_err-freed-clause-memory : goal.returns-in_err-freed-clause-memory
 returns-in_err-freed-clause-memory g c is_memory =
     let self = c.args.self.now in
-    (same_of_three
-    (λ (x : self.faulted ≡ false → self.copying ≡ false → IsAtRest self.current (g.P.Pmem.state self.device))
-    (y : self.faulted ≡ false → self.copying ≡ true → IsHalf self.current (g.P.Pmem.state self.device))
-    (z : self.faulted ≡ false → g.P.Pmem.floor self.device ≡ moment (g.P.Pmem.state self.device)). record self { at_rest = x; half = y; synced = z })
-    _ self.at_rest _ self.half _ self.synced (at_rest_prop self.faulted self.copying self.current (g.P.Pmem.state self.device))
-    (half_prop self.faulted self.copying self.current (g.P.Pmem.state self.device))
-    (synced_prop self.faulted (g.P.Pmem.floor self.device) (moment (g.P.Pmem.state self.device))))
+    (same_engine self.faulted self.copying self.current (g.P.Pmem.state self.device) (g.P.Pmem.floor self.device) (λ x y z. record self { at_rest = x; half = y; synced = z })
+    _ self.at_rest _ self.half _ self.synced)
 
 pub returns-in_err-freed-clause-moments : goal.returns-in_err-freed-clause-moments
 returns-in_err-freed-clause-moments g c sound =
