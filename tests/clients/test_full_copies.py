@@ -20,7 +20,7 @@ from worked_cases import STORE_IS_FULL
 PROGRAMS = ["server"]
 IS_SLOW = True
 # What a primary tells of a standby that is ahead.
-AHEAD = b" standby ahead: this node takes no acknowledgement"
+AHEAD = b"standby ahead: this node takes no acknowledgement"
 QUICK = ["Copied.test_the_worked_copy", "Waiting.test_writers_that_are_blocked"]
 
 
