@@ -20,7 +20,7 @@ from worked_cases import STORE_IS_FULL
 PROGRAMS = ["server"]
 IS_SLOW = True
 # What a primary tells of a standby that is ahead.
-AHEAD = b" standby ahead: this node takes no acknowledgement"
+AHEAD = b"standby ahead: this node takes no acknowledgement"
 QUICK = ["Copied.test_the_worked_copy", "Waiting.test_writers_that_are_blocked"]
 
 
@@ -404,8 +404,9 @@ class Told(Replacing):
         address = re.escape(self.between.port.address())
         lines = [rf"(?:copy of position 3 taken by {address} [^\n]+)", rf"(?:link to {address} lost: [^\n]+)"]
         told = re.findall("|".join(lines), self.told(self.nodes.primary).decode())
-        # (the first link was the standby's)
-        self.assertEqual([line.split()[0] for line in told], ["link", "link", "copy"])
+        # (the first link was the standby's; the cut may have ended another one behind the newcomer's)
+        kinds = [line.split()[0] for line in told]
+        self.assertEqual((kinds[:2], set(kinds[2:-1]) - {"link"}, kinds[-1]), (["link", "link"], set(), "copy"))
         self.finish()
 
     def test_a_newcomer_that_leaves_behind_its_acknowledgement(self):

@@ -23,7 +23,7 @@ IS_SLOW = True
 # An image of 64 MB.
 LARGE = 2**20
 SET_REQUEST = spell("SET", "a", "1")
-AHEAD = b" standby ahead: this node takes no acknowledgement"
+AHEAD = b"standby ahead: this node takes no acknowledgement"
 # A change whose value has 65,536 bytes, of which some are left out.
 BEGUN_CHANGE = b"\1" + len(b"key").to_bytes(2, "big") + b"key" + (65_536).to_bytes(4, "big") + 1_000 * b"v"
 
